@@ -1,0 +1,11 @@
+//! What a set does with a message of a transfer.
+#![tactic(auto)]
+
+mod message;
+#[cfg(test)]
+mod tests;
+mod took;
+
+pub use message::receive;
+pub use took::Took;
+pub use vs_space::{RecvFault, Reply};

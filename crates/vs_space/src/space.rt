@@ -1,0 +1,153 @@
+//! The statuses of all buckets at one set.
+
+ghost use Rattle.std.specs.Prelude.{◌≡◌, ◌≤◌, ◌+◌, ◌↔◌, ◌<◌, ◌*◌, ℕ, [], vec_len, sum_by, Some, IsNone, IsOk, IfOk, OnOk, OnErr, IfErr};
+ghost use Rattle.vs_space.specs.Entries.{status_of, with_status, count_of, booted, IsRange, RisesFrom};
+ghost use Rattle.vs_space.specs.Counts.{counted};
+ghost use Rattle.vs_space.specs.Table.{entries_from};
+ghost use Rattle.vs_space.specs.Status.{MayChange};
+
+use crate::change::{NotAllowed, may_change};
+use crate::counts::KindCounts;
+use crate::status::{Status, StatusKind};
+use std::alloc::Global;
+use std::marker::Model;
+use vs_base::{BucketId, NoMemory};
+
+/// The place of a bucket in the table.
+fn index_of(id: BucketId) -> usize
+    ensures place { result + 1 ≡ id }
+    ensures within { result < 30000 }
+{
+    id.get() as usize - 1
+}
+
+/// A table of `total` places: none before the bucket `before + 1` has a status, the next `count` are active.
+fn table(
+    alloc: Global,
+    before: usize,
+    count: usize,
+    total: usize,
+) -> Result<Vec<Option<Status>>, NoMemory>
+    requires { before + count ≤ total }
+    ensures entries { IfOk result (λ v. entries_from 1 v.items ≡ booted (before + 1) count) }
+    ensures counted { IfOk result (λ v. (kind : StatusKind) → sum_by (counted kind) v.items ≡ count * counted kind (Some Status.Active)) }
+    ensures len { IfOk result (λ v. vec_len v ≡ total) }
+{
+    let mut places = Vec::with_capacity(alloc, total)?;
+    places.resize(before, None)?;
+    places.resize(before + count, Some(Status::Active))?;
+    places.resize(total, None)?;
+    Ok(places)
+}
+
+/// The status of each bucket at one set: the space `_bucket` of vshard. Contracts see the entries, in order of the
+/// buckets, and for how many more there is room.
+#[derive(Debug, Drop)]
+pub struct Space {
+    places: Vec<Option<Status>>,
+    counts: KindCounts,
+}
+
+impl Model for Space {
+    ghost use Rattle.std.specs.Prelude.{length};
+    ghost use Rattle.vs_space.specs.Entries.{Entries};
+    ghost use Rattle.vs_space.specs.Table.{entries_from, IsTable};
+
+    ghost Value = { Entries };
+
+    ghost view = { λ s. record { entries = entries_from 1 s.places.items; room = length s.places.items } };
+
+    ghost invariant = { λ s. IsTable s.places.items s.counts };
+}
+
+impl Space {
+    /// No entry, and room for none.
+    pub fn new(alloc: Global) -> Space
+        ensures { result.entries ≡ [] }
+    {
+        Space {
+            places: Vec::new(alloc),
+            counts: KindCounts::new(),
+        }
+    }
+
+    /// The entries of a new set: `count` buckets from `first` on, all active.
+    pub fn booted(alloc: Global, first: u32, count: u32) -> Result<Space, NoMemory>
+        requires { IsRange first count }
+        ensures { IfOk result (λ space. space.entries ≡ booted first count) }
+    {
+        if count == 0 {
+            return Ok(Space::new(alloc));
+        }
+        Ok(Space {
+            places: table(
+                alloc,
+                first as usize - 1,
+                count as usize,
+                BucketId::MAX as usize,
+            )?,
+            counts: KindCounts::of_active(count),
+        })
+    }
+
+    /// A copy.
+    pub fn try_clone(&self) -> Result<Space, NoMemory>
+        ensures { IfOk result (λ space. space.entries ≡ self.now.entries) }
+    {
+        Ok(Space {
+            places: Vec::from_slice(*self.places.allocator(), &self.places)?,
+            counts: self.counts,
+        })
+    }
+
+    /// Makes room for one entry.
+    pub fn reserve(&mut self) -> Result<(), NoMemory>
+        ensures room { OnOk result (1 ≤ self.new.room) }
+        ensures kept { self.old.room ≤ self.new.room }
+        ensures entries { self.new.entries ≡ self.old.entries }
+    {
+        if self.places.is_empty() {
+            self.places = table(*self.places.allocator(), 0, 0, BucketId::MAX as usize)?;
+        }
+        Ok(())
+    }
+
+    /// The bucket's status, where it has an entry.
+    pub fn get(&self, id: BucketId) -> Option<Status>
+        ensures status { result ≡ status_of self.now.entries id }
+        ensures order { RisesFrom 1 self.now.entries }
+    {
+        match self.places.get(index_of(id)) {
+            Some(place) => *place,
+            None => None,
+        }
+    }
+
+    /// How many buckets have a status of this kind.
+    pub fn count(&self, kind: StatusKind) -> u32
+        ensures { result ≡ count_of kind self.now.entries }
+    {
+        self.counts.get(kind)
+    }
+
+    /// Gives the bucket a new status, or removes its entry. It takes no memory.
+    ///
+    /// A change that isn't one of those allowed is refused, with the status as it is.
+    pub fn change(&mut self, id: BucketId, new: Option<Status>) -> Result<(), NotAllowed>
+        requires { IsNone (status_of self.old.entries id) → 1 ≤ self.old.room }
+        ensures allowed { IsOk result ↔ MayChange (status_of self.old.entries id) new }
+        ensures ok { OnOk result (self.new.entries ≡ with_status self.old.entries id new) }
+        ensures refused { IfErr result (λ e. e.0 ≡ status_of self.old.entries id) }
+        ensures err { OnErr result (self.new ≡ self.old) }
+        ensures room { self.old.room ≤ self.new.room + 1 }
+    {
+        let old = self.get(id);
+        if !may_change(&old, &new) {
+            return Err(NotAllowed(old));
+        }
+        let index = index_of(id);
+        self.counts.replace(&old, &new);
+        self.places[index] = new;
+        Ok(())
+    }
+}
