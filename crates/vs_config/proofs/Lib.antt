@@ -1,0 +1,6 @@
+pub mod Documents
+pub mod Doubles
+pub mod LawfulLemmas
+pub mod NotToml
+pub mod SetTables
+pub mod Tables

@@ -1,0 +1,7 @@
+pub mod Changed
+pub mod Placed
+pub mod Pushed
+pub mod Rising
+pub mod Same
+pub mod Scanned
+pub mod Values

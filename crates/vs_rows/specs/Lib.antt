@@ -1,0 +1,9 @@
+pub mod Changes
+pub mod Faults
+pub mod Names
+pub mod Operations
+pub mod Pages
+pub mod Place
+pub mod RowMap
+pub mod Said
+pub use Rattle.vs_base.specs.Listed
