@@ -1,8 +1,8 @@
 -- How a run of calls goes on, and what a torn write leaves as it was.
-use Rattle.std.proofs.Common.{◌≡◌, inl, inr, ⊎_elim, ℕ, ◌+◌, ◌≤◌, ◌<◌, List, length, take, drop, get_or, sym, ◌∙◌, arith, length-drop}
+use Rattle.std.proofs.Common.{◌≡◌, inl, inr, ⊎_elim, ℕ, ◌+◌, ◌≤◌, ◌<◌, List, length, take, drop, get_or, IsTrue, sym, ◌∙◌, subst, arith, length-drop}
 use Rattle.std.proofs.lemmas.List.{ext_get_or, length-take, get_or-take, get_or-drop}
-use Rattle.vs_disk.specs.Told.{Told}
-use Rattle.vs_disk.specs.Model.{Torn, Elapses, LeavesOnly}
+use Rattle.vs_disk.specs.Told.{Told, Leaves, IsSynced}
+use Rattle.vs_disk.specs.Model.{Torn, Keeps, Elapses, Rests, IsLawful, LeavesOnly, LeavesThrough}
 
 -- before the first call
 pub started : (old : Told) (P : List ℕ → Type 0) → ((c : List ℕ) → old.left_since old.moment c → P c) → LeavesOnly old old P
@@ -31,6 +31,30 @@ weakened old new P Q so run = record {
   each = λ c left. so c (run.each c left);
   before = λ t c le left. ⊎_elim inl (λ p. inr (so c p)) (run.before t c le left);
 }
+
+-- the same, where it is honest
+pub joined_through : (old mid new : Told) (P : List ℕ → Type 0) → Keeps old mid → LeavesThrough old mid P → LeavesThrough mid new P → LeavesThrough old new P
+joined_through old mid new P keeps first second honest = joined old mid new P (first honest) (second (keeps.honest ∙ honest))
+
+pub weakened_through : (old new : Told) (P Q : List ℕ → Type 0) → ((c : List ℕ) → P c → Q c) → LeavesThrough old new P → LeavesThrough old new Q
+weakened_through old new P Q so run honest = weakened old new P Q so (run honest)
+
+-- a call that writes nothing, where what a read gives is on the disk
+pub rests_synced : (old new : Told) → IsLawful old → IsSynced old → Rests old new → Keeps old new → IsSynced new
+rests_synced old new laws synced rests keeps still c left =
+    let honest : IsTrue old.is_honest = sym keeps.honest ∙ still in
+    synced honest c (rests.crash honest c left) ∙ sym (rests.reads (laws.reads_too honest))
+
+pub rests_run : (old new : Told) (P : List ℕ → Type 0) → IsLawful old → IsSynced old → Rests old new → P old.reads_as → LeavesThrough old new P
+rests_run old new P laws synced rests now honest =
+    let here : (c : List ℕ) → old.may_leave c → P c = λ c left. subst P (sym (synced honest c left)) now in
+    goes_on old old new P (started old P (λ c left. here c (laws.only_now honest c left))) (rests.time honest) (λ c left. here c (rests.crash honest c left))
+
+-- what a crash now may leave is what one at the last of these moments leaves
+pub leaves_now : (old new : Told) (P : List ℕ → Type 0) → IsLawful new → Keeps old new → LeavesThrough old new P → Leaves new P
+leaves_now old new P laws keeps run still c left =
+    let all = run (sym keeps.honest ∙ still) in
+    all.each c (laws.counts_now still old.moment c all.later left)
 
 -- a shorter range tears no more
 pub torn_more : (at m n : ℕ) (old c : List ℕ) → m ≤ n → Torn at m old c → Torn at n old c

@@ -18,8 +18,9 @@ pub enum DiskOpen {
     NoMemory,
 }
 
-/// One file of bytes. Of an honest disk the clauses say what a read gives and what a crash may leave. Of one that tells
-/// its reads alone, they say what a read gives. Of any disk they say whether it is open, its room and its faults.
+/// One file of bytes. Of an honest disk the clauses say what a read gives and what a crash may
+/// leave. Of one that tells its reads alone, they say what a read gives. Of any disk they say
+/// whether it is open, its room and its faults.
 pub trait Disk {
     /// What it tells.
     ghost told: { Self → Told };
@@ -28,12 +29,14 @@ pub trait Disk {
     fn faults(&self) -> u64
         ensures { result ≡ (told self.now).faults };
 
-    /// Makes it ready, with length 0 where nothing was there. On a disk that is open it does nothing.
+    /// Makes it ready, with length 0 where nothing was there. On a disk that is open it does
+    /// nothing.
     fn open(&mut self) -> Result<(), DiskOpen>
         ensures open { OnOk result (IsOpen (told self.new)) }
         ensures nothing { IsOpen (told self.old) → IsOk result × (self.new ≡ self.old) }
         ensures failed { IsErrOf result DiskOpen.Failed → Failed (told self.old) (told self.new) }
-        ensures memory { IsErrOf result DiskOpen.NoMemory → IsUntouched (told self.old) (told self.new) }
+        ensures memory { IsErrOf result DiskOpen.NoMemory
+            → IsUntouched (told self.old) (told self.new) }
         ensures rests { Rests (told self.old) (told self.new) }
         ensures keeps { Keeps (told self.old) (told self.new) };
 
@@ -64,7 +67,8 @@ pub trait Disk {
         ensures rests { Rests (told self.old) (told self.new) }
         ensures keeps { Keeps (told self.old) (told self.new) };
 
-    /// Writes over what is there, and past the end. Until a sync a crash may leave any bytes in the range.
+    /// Writes over what is there, and past the end. Until a sync a crash may leave any bytes in the
+    /// range.
     fn write_at(&mut self, at: u64, bytes: &[u8]) -> Result<(), DiskFailed>
         requires open { IsOpen (told self.old) }
         requires room { at + length bytes.now ≤ (told self.old).reserved }

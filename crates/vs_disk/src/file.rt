@@ -11,7 +11,8 @@ use std::os::unix::fs::FileExt;
 use std::rt::Files;
 use vs_base::{NoMemory, raised};
 
-/// A disk over one file. Each error of the system is a fault, and so is a write that takes nothing of a piece.
+/// A disk over one file. Each error of the system is a fault, and so is a write that takes nothing
+/// of a piece.
 #[derive(Drop)]
 pub struct FileDisk<R: Files<File = File> + Drop> {
     rt: R,

@@ -1,4 +1,5 @@
-//! A disk in memory that keeps a record of its calls, so that a crash after any of them can be played.
+//! A disk in memory that keeps a record of its calls, so that a crash after any of them can be
+//! played.
 
 ghost use Rattle.std.specs.Prelude.{◌≡◌, ◌≤◌, [], ◌∷◌, ◌++◌, if◌then◌else◌, is_ok, length, take, reverse, vec_capacity, IfOk, OnErr};
 ghost use Rattle.vs_base.specs.Faults.{Rose};
@@ -12,9 +13,9 @@ use crate::image::image_after;
 use std::alloc::Global;
 use vs_base::{NoMemory, raised};
 
-/// A disk in memory, with what it held at first, the calls that it has had since, and those that are to fail. It is
-/// honest. Its calls are those that may answer `DiskFailed`, and each `open` but one that finds it open. A call that
-/// finds no memory to be put down fails.
+/// A disk in memory, with what it held at first, the calls that it has had since, and those that
+/// are to fail. It is honest. Its calls are those that may answer `DiskFailed`, and each `open` but
+/// one that finds it open. A call that finds no memory to be put down fails.
 #[derive(Drop)]
 pub struct MemDisk {
     ready: bool,
@@ -30,7 +31,8 @@ pub struct MemDisk {
 
 // Puts a call down, where there is memory.
 fn note(calls: &mut Vec<MemCall>, call: MemCall) -> Result<(), NoMemory>
-    ensures { calls.new.items ≡ (if is_ok result then calls.old.items ++ call ∷ [] else calls.old.items) }
+    ensures { calls.new.items
+        ≡ (if is_ok result then calls.old.items ++ call ∷ [] else calls.old.items) }
 {
     calls.push(call)?;
     Ok(())
@@ -69,9 +71,9 @@ impl MemDisk {
         &self.bytes
     }
 
-    /// What a crash after so many of its calls leaves. What wasn't synced then has the old bytes and the old length for
-    /// pick 0, the new ones for pick 1, and the new length with `a5` throughout for pick 2. No call of the new disk is to
-    /// fail.
+    /// What a crash after so many of its calls leaves. What wasn't synced then has the old bytes
+    /// and the old length for pick 0, the new ones for pick 1, and the new length with `a5`
+    /// throughout for pick 2. No call of the new disk is to fail.
     pub fn after_crash(&self, calls: u64, pick: u8) -> Result<MemDisk, NoMemory>
         requires calls { calls ≤ length (calls_of self.now) }
         requires pick { pick ≤ 2 }

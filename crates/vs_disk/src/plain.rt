@@ -9,7 +9,8 @@ use crate::disk::{Disk, DiskFailed, DiskOpen};
 use std::alloc::Global;
 use vs_base::NoMemory;
 
-/// A disk in memory. It is open, and no call of it fails. It tells what a read gives, and nothing of a crash.
+/// A disk in memory. It is open, and no call of it fails. It tells what a read gives, and nothing
+/// of a crash.
 #[derive(Drop)]
 pub struct PlainDisk {
     bytes: Vec<u8>,

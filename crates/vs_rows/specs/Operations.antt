@@ -17,7 +17,8 @@ answer_to m (Get k) = option_map_or Value (value_of m k) NoValue
 answer_to m (Put k v) = Done
 answer_to m (Insert k v) = option_map_or (λ _. Exists) (value_of m k) Done
 answer_to m (Delete k) = option_map_or (λ _. Done) (value_of m k) NoValue
-answer_to m (Swap k old new) = option_map_or (λ v. if is_same v old then Done else Differs) (value_of m k) NoValue
+answer_to m (Swap k old new) =
+    option_map_or (λ v. if is_same v old then Done else Differs) (value_of m k) NoValue
 answer_to m Count = Number (length m)
 answer_to m (Scan k n) = Pairs (take n (rows_from m k))
 
@@ -27,7 +28,8 @@ row_map_after m (Get k) = m
 row_map_after m (Put k v) = with_value m k v
 row_map_after m (Insert k v) = option_map_or (λ _. m) (value_of m k) (with_value m k v)
 row_map_after m (Delete k) = without_key m k
-row_map_after m (Swap k old new) = option_map_or (λ v. if is_same v old then with_value m k new else m) (value_of m k) m
+row_map_after m (Swap k old new) =
+    option_map_or (λ v. if is_same v old then with_value m k new else m) (value_of m k) m
 row_map_after m Count = m
 row_map_after m (Scan k n) = m
 

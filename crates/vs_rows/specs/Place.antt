@@ -7,7 +7,8 @@ module _ {V : Type 0} where
   pub record FoundAt (rows : List (List ℕ × V)) (key : List ℕ) (i : ℕ) : Type 0 where
     pub within : i < length rows
     pub get : (row : List ℕ × V) → row ≡ slice_index_or rows i row → value_of rows key ≡ Some row.1
-    pub put : (row : List ℕ × V) (v : V) → row ≡ slice_index_or rows i row → with_value rows key v ≡ slice_set rows i (row.0, v)
+    pub put : (row : List ℕ × V) (v : V) → row ≡ slice_index_or rows i row
+        → with_value rows key v ≡ slice_set rows i (row.0, v)
     pub remove : without_key rows key ≡ remove rows i
     pub below : rows_below rows key ≡ take i rows
     pub from : rows_from rows key ≡ drop i rows

@@ -20,7 +20,8 @@ module _ {V : Type 0} where
   -- the keys rise, so none stands twice
   abbrev pub IsRising : List (List ℕ × V) → Type 0
   IsRising [] = Unit {0}
-  IsRising (row ∷ rows) = AllByRecursion (λ later. key_cmp row.0 later.0 ≡ Less) rows × IsRising rows
+  IsRising (row ∷ rows) =
+      AllByRecursion (λ later. key_cmp row.0 later.0 ≡ Less) rows × IsRising rows
 
   -- the value of a key, if it is there
   abbrev pub value_of : List (List ℕ × V) → List ℕ → Option V

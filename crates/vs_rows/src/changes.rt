@@ -17,8 +17,9 @@ use std::alloc::Global;
 use std::marker::Model;
 use vs_base::NoMemory;
 
-/// Changes of rows: keys, each with the value that it gets, or with none where its row goes. The keys rise
-/// in byte order, so none stands twice. Contracts see the changes, and the number of free places.
+/// Changes of rows: keys, each with the value that it gets, or with none where its row goes. The
+/// keys rise in byte order, so none stands twice. Contracts see the changes, and the number of
+/// free places.
 #[derive(Debug, Drop)]
 pub struct Changes {
     changes: Vec<(Key, Option<Val>)>,
@@ -31,7 +32,8 @@ impl Model for Changes {
 
     ghost Value = { Listed (List ℕ × Option (List ℕ)) };
 
-    ghost view = { λ c. record { items = c.changes.items; room = vec_capacity c.changes - vec_len c.changes } };
+    ghost view = { λ c.
+        record { items = c.changes.items; room = vec_capacity c.changes - vec_len c.changes } };
 
     ghost invariant = { λ c. IsRising c.changes.items };
 }
@@ -110,7 +112,8 @@ impl Changes {
     /// Sets the change of a key, in place of the one that it had.
     fn set(&mut self, key: &Key, value: Option<&Val>) -> Result<(), NoMemory>
         ensures { OnOk result ((m : RowMap) → IsRising m →
-            with_changes m self.new.items ≡ with_change (with_changes m self.old.items) (key.now, option_copied value.entry)) }
+            with_changes m self.new.items
+            ≡ with_change (with_changes m self.old.items) (key.now, option_copied value.entry)) }
     {
         let key = key.try_clone()?;
         let value = copy_value(value)?;
@@ -147,7 +150,8 @@ impl Changes {
     #[tactic(auto, using(crate::proofs::Values::without_absent))]
     pub(crate) fn answer(&mut self, rows: &[(Key, Val)], op: &Op) -> Result<Answer, NoMemory>
         requires { IsRising rows.now }
-        ensures answer { IfOk result (λ answer. said answer ≡ answer_to (with_changes rows.now self.old.items) op.now) }
+        ensures answer { IfOk result (λ answer.
+            said answer ≡ answer_to (with_changes rows.now self.old.items) op.now) }
         ensures changes { OnOk result (with_changes rows.now self.new.items
             ≡ row_map_after (with_changes rows.now self.old.items) op.now) }
     {

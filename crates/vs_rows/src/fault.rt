@@ -8,7 +8,7 @@ use std::alloc::AllocError;
 /// Why a text is refused as a key or a value.
 #[derive(Clone, Copy, Debug, PartialEq, Eq)]
 pub enum RowFault {
-    /// The text is empty, longer than 64 bytes, the mark `;` alone, or has a byte outside 0x21 to 0x7E.
+    /// The text is empty, longer than 64 bytes, `;` alone, or has a byte outside 0x21 to 0x7E.
     BadText,
     NoMemory,
 }

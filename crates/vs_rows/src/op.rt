@@ -21,7 +21,8 @@ pub enum Op {
     Swap(Key, Val, Val),
     /// The number of rows.
     Count,
-    /// The first rows whose key isn't below this one in byte order, so many at most. Calls ask for 1 to 100.
+    /// The first rows whose key isn't below this one in byte order, at most so many. Scripts ask
+    /// for 1 to 100.
     Scan(Key, u8),
 }
 

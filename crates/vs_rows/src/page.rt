@@ -10,7 +10,8 @@ use std::alloc::Global;
 use std::marker::Model;
 use vs_base::{Items, NoMemory};
 
-/// Pairs of a key and a value that rise by key in byte order, at most 1,000. Contracts see them, and the number of free places.
+/// Pairs of a key and a value that rise by key in byte order, at most 1,000. Contracts see them,
+/// and the number of free places.
 #[derive(Debug, Drop)]
 pub struct Page {
     pairs: Items<(Key, Val)>,
@@ -94,7 +95,7 @@ impl Page {
         self.pairs.into_vec()
     }
 
-    /// Whether a pair with this key may be pushed: the page isn't full, and each of its keys is lower.
+    /// Whether a pair with this key may be pushed: the page isn't full, and all its keys are lower.
     pub fn can_push(&self, key: &Key) -> bool
         ensures { IsTrue result ↔ ((v : List ℕ) → IsPage (self.now.items ++ (key.now, v) ∷ [])) }
     {

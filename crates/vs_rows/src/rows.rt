@@ -33,7 +33,8 @@ impl Model for Rows {
 
     ghost Value = { Listed (List ℕ × List ℕ) };
 
-    ghost view = { λ r. record { items = r.rows.items; room = vec_capacity r.rows - vec_len r.rows } };
+    ghost view = { λ r.
+        record { items = r.rows.items; room = vec_capacity r.rows - vec_len r.rows } };
 
     ghost invariant = { λ r. IsRising r.rows.items };
 }
@@ -63,7 +64,8 @@ impl Rows {
 
     /// Whether there are rows above a key, or any rows where none is given.
     pub fn more(&self, after: Option<&Key>) -> bool
-        ensures { IsTrue result ↔ (0 < length (rows_above self.now.items (option_copied after.entry))) }
+        ensures { IsTrue result
+            ↔ (0 < length (rows_above self.now.items (option_copied after.entry))) }
     {
         !sorted::rows_above(&self.rows, after).is_empty()
     }
@@ -86,7 +88,8 @@ impl Rows {
     pub fn page(&self, after: Option<&Key>, n: u16) -> Result<Page, NoMemory>
         requires least { 1 ≤ n }
         requires greatest { n ≤ 1000 }
-        ensures { IfOk result (λ page. page.items ≡ page_of self.now.items (option_copied after.entry) n) }
+        ensures { IfOk result (λ page.
+            page.items ≡ page_of self.now.items (option_copied after.entry) n) }
     {
         let rows = sorted::rows_above(&self.rows, after);
         let n = rows.len().min(usize::from(n));
@@ -114,9 +117,10 @@ impl Rows {
         }
     }
 
-    /// Applies operations one after the other. An answer such as `Exists` doesn't stop the later ones.
+    /// Applies operations one after the other. An answer such as `Exists` doesn't stop later ones.
     pub fn apply(&mut self, ops: &Ops) -> Result<Answers, NoMemory>
-        ensures answers { IfOk result (λ answers. said_all answers.items ≡ answers_to self.old.items ops.now.items) }
+        ensures answers { IfOk result (λ answers.
+            said_all answers.items ≡ answers_to self.old.items ops.now.items) }
         ensures rows { OnOk result (self.new.items ≡ rows_after self.old.items ops.now.items) }
         ensures err { OnErr result (self.new.items ≡ self.old.items) }
     {
@@ -125,11 +129,12 @@ impl Rows {
         Ok(answers)
     }
 
-    /// What operations, applied one after the other, would change and answer. The rows stay as they are.
+    /// What operations, applied one after the other, would change and answer. The rows stay.
     /// Room is made for as many rows as there are changes.
     pub fn stage(&mut self, ops: &Ops) -> Result<Staged, NoMemory>
         ensures changes { IfOk result (λ staged.
-            with_changes self.old.items staged.changes.items ≡ rows_after self.old.items ops.now.items) }
+            with_changes self.old.items staged.changes.items
+            ≡ rows_after self.old.items ops.now.items) }
         ensures answers { IfOk result (λ staged.
             said_all staged.answers.items ≡ answers_to self.old.items ops.now.items) }
         ensures room { IfOk result (λ staged. length staged.changes.items ≤ self.new.room) }
@@ -149,7 +154,8 @@ impl Rows {
         Ok(Staged { changes, answers })
     }
 
-    /// Sets each key that has a value in the changes, and removes each that has none. It takes no memory.
+    /// Sets each key that has a value in the changes, and removes each that has none.
+    /// It takes no memory.
     pub fn commit(&mut self, changes: Changes)
         requires { length changes.items ≤ self.old.room }
         ensures items { self.new.items ≡ with_changes self.old.items changes.items }

@@ -11,7 +11,8 @@ use crate::val::Val;
 use std::alloc::Global;
 use vs_base::{Items, NoMemory};
 
-/// The first rows that the changes leave, from a key on. The rows between two changes are copied in one go.
+/// The first rows that the changes leave, from a key on. The rows between two changes are copied
+/// in one go.
 pub(crate) fn scan(
     alloc: Global,
     rows: &[(Key, Val)],
@@ -22,7 +23,8 @@ pub(crate) fn scan(
     requires rows { IsRising rows.now }
     requires changes { IsRising changes.now }
     requires short { n ≤ 1000 }
-    ensures { IfOk result (λ page. page.items ≡ take n (rows_from (with_changes rows.now changes.now) from.now)) }
+    ensures { IfOk result (λ page.
+        page.items ≡ take n (rows_from (with_changes rows.now changes.now) from.now)) }
 {
     let mut read = Items::new(alloc);
     let mut rest = sorted::rows_from(rows, from);

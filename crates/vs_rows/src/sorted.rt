@@ -80,7 +80,8 @@ pub(crate) fn put<V: Drop>(rows: &mut Vec<(Key, V)>, key: Key, value: V)
     requires room { vec_len rows.old < vec_capacity rows.old }
     ensures items { rows.new.items ≡ with_value rows.old.items key value }
     ensures rising { IsRising rows.new.items }
-    ensures room { vec_capacity rows.old - vec_len rows.old ≤ vec_capacity rows.new - vec_len rows.new + 1 }
+    ensures room { vec_capacity rows.old - vec_len rows.old
+        ≤ vec_capacity rows.new - vec_len rows.new + 1 }
 {
     match place(rows, &key) {
         Ok(i) => rows[i].1 = value,
@@ -93,7 +94,8 @@ pub(crate) fn remove<V: Drop>(rows: &mut Vec<(Key, V)>, key: &Key)
     requires { IsRising rows.old.items }
     ensures items { rows.new.items ≡ without_key rows.old.items key.now }
     ensures rising { IsRising rows.new.items }
-    ensures room { vec_capacity rows.old - vec_len rows.old ≤ vec_capacity rows.new - vec_len rows.new }
+    ensures room { vec_capacity rows.old - vec_len rows.old
+        ≤ vec_capacity rows.new - vec_len rows.new }
 {
     if let Ok(i) = place(rows, key) {
         rows.remove(i);

@@ -7,7 +7,8 @@ use crate::answer::{Answers, copy_answers};
 use crate::changes::Changes;
 use vs_base::NoMemory;
 
-/// What operations would change and answer. `Rows::stage` makes it, and `Rows::commit` makes the changes.
+/// What operations would change and answer. `Rows::stage` gives it, and `Rows::commit` makes the
+/// changes.
 #[derive(Debug, Drop)]
 pub struct Staged {
     pub changes: Changes,
@@ -17,7 +18,8 @@ pub struct Staged {
 impl Staged {
     pub fn try_clone(&self) -> Result<Staged, NoMemory>
         ensures changes { IfOk result (λ staged. staged.changes.items ≡ self.now.changes.items) }
-        ensures answers { IfOk result (λ staged. said_all staged.answers.items ≡ said_all self.now.answers.items) }
+        ensures answers { IfOk result (λ staged.
+            said_all staged.answers.items ≡ said_all self.now.answers.items) }
     {
         let changes = self.changes.try_clone()?;
         let answers = copy_answers(self.answers.allocator(), &self.answers)?;

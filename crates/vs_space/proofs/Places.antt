@@ -94,11 +94,11 @@ entries_from-set places first i id (Some status) within at = subst (λ id. entri
 
 -- the statuses of a kind, counted from the front
 module _ (kind : StatusKind) where
-  total : List (ℕ × Status) → ℕ
+  unfoldable pub total : List (ℕ × Status) → ℕ
   total [] = 0
   total (e ∷ es) = cond (is_kind kind e.1) (1 + total es) (total es)
 
-  total_is : (es : List (ℕ × Status)) → total es ≡ count_of kind es
+  pub total_is : (es : List (ℕ × Status)) → total es ≡ count_of kind es
   unfolding total
   total_is es = is_count_by total (λ e. is_kind kind e.1) refl (λ e es. refl) es
 

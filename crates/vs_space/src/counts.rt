@@ -58,7 +58,8 @@ impl KindCounts {
     /// One more status.
     pub fn add(&mut self, status: &Status)
         requires { number_of self.old (kind_of status.now) + 1 < 2 ^ 32 }
-        ensures { (kind : StatusKind) → number_of self.new kind ≡ number_of self.old kind + counted kind (Some status.now) }
+        ensures { (kind : StatusKind) →
+            number_of self.new kind ≡ number_of self.old kind + counted kind (Some status.now) }
     {
         match status {
             Status::Active => self.active += 1,
@@ -73,7 +74,8 @@ impl KindCounts {
     /// One status fewer.
     pub fn remove(&mut self, status: &Status)
         requires { 1 ≤ number_of self.old (kind_of status.now) }
-        ensures { (kind : StatusKind) → number_of self.new kind + counted kind (Some status.now) ≡ number_of self.old kind }
+        ensures { (kind : StatusKind) →
+            number_of self.new kind + counted kind (Some status.now) ≡ number_of self.old kind }
     {
         match status {
             Status::Active => self.active -= 1,
@@ -89,7 +91,8 @@ impl KindCounts {
     pub fn replace(&mut self, old: &Option<Status>, new: &Option<Status>)
         requires counted { IfSome old.now (λ status. 1 ≤ number_of self.old (kind_of status)) }
         requires room { (kind : StatusKind) → number_of self.old kind + 1 < 2 ^ 32 }
-        ensures { (kind : StatusKind) → number_of self.new kind + counted kind old.now ≡ number_of self.old kind + counted kind new.now }
+        ensures { (kind : StatusKind) →
+            number_of self.new kind + counted kind old.now ≡ number_of self.old kind + counted kind new.now }
     {
         if let Some(status) = old {
             self.remove(status);

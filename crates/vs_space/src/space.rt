@@ -30,7 +30,8 @@ fn table(
 ) -> Result<Vec<Option<Status>>, NoMemory>
     requires { before + count ≤ total }
     ensures entries { IfOk result (λ v. entries_from 1 v.items ≡ booted (before + 1) count) }
-    ensures counted { IfOk result (λ v. (kind : StatusKind) → sum_by (counted kind) v.items ≡ count * counted kind (Some Status.Active)) }
+    ensures counted { IfOk result (λ v. (kind : StatusKind) →
+        sum_by (counted kind) v.items ≡ count * counted kind (Some Status.Active)) }
     ensures len { IfOk result (λ v. vec_len v ≡ total) }
 {
     let mut places = Vec::with_capacity(alloc, total)?;

@@ -1,0 +1,2 @@
+pub mod Collect
+pub use Rattle.vs_rows.specs.RowMap

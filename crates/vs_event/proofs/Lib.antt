@@ -1,0 +1,6 @@
+mod EventLines
+mod EventsText
+mod LongWords
+mod RecordedWords
+mod Shapes
+mod Spaces

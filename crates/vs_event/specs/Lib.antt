@@ -1,0 +1,6 @@
+pub mod Event
+pub mod Fault
+pub mod Reading
+pub mod Recorded
+pub use Rattle.vs_base.specs.Listed
+pub use Rattle.vs_base.specs.Numbers

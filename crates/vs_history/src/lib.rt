@@ -1,0 +1,6 @@
+//! The history of a bucket: its opening rows, its writes and its reads, each with its answers and its place.
+#![tactic(auto)]
+
+mod entry;
+
+pub use entry::Entry;

@@ -1,0 +1,9 @@
+use Rattle.vs_link.specs.Connection.{Connection, with_reply}
+use Rattle.vs_link.proofs.Table.{becomes_by}
+use Rattle.vs_link.proofs.links.Links.answer.Goals as goal
+
+pub returns-clause-links : goal.returns-clause-links
+returns-clause-links c =
+    becomes_by (λ (d : Connection). with_reply d c.args.heard) c.self.inside.sets c.self.inside.connections.items c.args.self.now c.args.x c.args.y c.place.result c.index_mut-connection.result.now c.answer.new.self
+    c.self.invariant c.self.view_is c.place.ensures.first c.place.ensures.second c.requires.pair c.place.ensures.place c.index_mut-connection.ensures.value
+    c.answer.ensures.connection

@@ -1,0 +1,12 @@
+//! Connections from set to set: messages and replies, first in, first out, by epoch.
+#![tactic(auto)]
+
+mod connection;
+mod links;
+mod message;
+#[cfg(test)]
+mod tests;
+
+pub use links::Links;
+pub use message::{Empty, Heard, Msg, Posted};
+pub use vs_space::{RecvFault, Reply};

@@ -1,0 +1,2 @@
+-- What calls were answered, kept by every event.
+pub mod Steps

@@ -1,0 +1,17 @@
+pub mod Actors
+pub mod Check
+pub mod Coherence
+pub mod History
+pub mod Inner
+pub mod Kinds
+pub mod Laws
+pub mod Opening
+pub mod Outcome
+pub mod Report
+pub mod Runs
+pub mod Settling
+pub mod State
+pub mod Step
+pub mod Tables
+pub mod Whole
+pub mod Worked

@@ -1,0 +1,13 @@
+//! The machine of a cluster: its state, what each event does, and what holds of every run.
+#![tactic(auto)]
+
+mod laws;
+mod outcome;
+mod runs;
+
+pub use laws::{
+    every_event, five_events, held_buckets, legal_histories, one_owner, ordered_calls, sealed_rows,
+    true_refusals,
+};
+pub use outcome::{CommandFault, CommandOutcome};
+pub use runs::{commanded_runs, moved_runs, recovered_runs, stopped_runs, waited_runs};

@@ -1,0 +1,5 @@
+mod FirstLine
+mod FirstWord
+mod Numerals
+mod ShortWords
+mod Splits
