@@ -3,6 +3,11 @@
 
 mod outcome;
 mod stage;
+mod state;
 
 pub use outcome::{Outcome, Outcomes};
 pub use stage::Stage;
+pub use state::CallState;
+
+#[cfg(test)]
+mod tests;

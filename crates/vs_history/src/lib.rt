@@ -2,5 +2,10 @@
 #![tactic(auto)]
 
 mod entry;
+mod history;
 
 pub use entry::Entry;
+pub use history::History;
+
+#[cfg(test)]
+mod tests;
