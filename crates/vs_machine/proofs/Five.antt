@@ -31,7 +31,8 @@ use Rattle.vs_machine.specs.Kinds.Pinning.{Pinning, pinning_fault, pin, after_pi
 use Rattle.vs_machine.specs.Kinds.Rebalancing.{haul, after_haul, bucket_to_haul, plan, plan_round, is_in_move}
 use Rattle.vs_machine.specs.Kinds.Sender.{Move, start, after_start}
 use Rattle.vs_machine.specs.Kinds.Stops.{lost_at, gone_down, stop, restart, restarted}
-use Rattle.vs_machine.specs.Opening.{script_of, client_at}
+use Rattle.vs_script.specs.Scripts.{script_of}
+use Rattle.vs_machine.specs.Opening.{client_at}
 use Rattle.vs_machine.specs.Laws.{one_if_reply, FiveEventRuns}
 use Rattle.vs_machine.proofs.Can.Calls.{can_post, can_begin, can_act, can_end, can_take, can_cut}
 use Rattle.vs_machine.proofs.Can.Others.{can_deliver, can_hear, can_close, can_ask, can_condemn, can_wipe, can_forget, can_pin, can_haul, can_plan}
@@ -95,9 +96,6 @@ one_client s c new le = sum_put s.client c new s.clients le
 
 posted_cost : (st : Stage) → may_post st ≡ true → weight stage.Posted ≤ weight st + 1
 posted_cost st h = omega arith
-
-lost_cost : (st : Stage) → 0 ≤ weight st
-lost_cost st = omega arith
 
 begun_cost : (c : Client) (v : Verdict) → is_posted c.present.stage ≡ true → cost (with_progress c (begun c.present v)) ≤ cost c + 1
 begun_cost c v at = by v (posted_is c.present.stage at)
@@ -173,9 +171,6 @@ lost_at_cost x c = by (is_at_set c.present.stage && is_set c.present.set x)
     by : (t : Bool) → cost (if t then with_progress c (lost c.present) else c) ≤ cost c
     by true = omega arith
     by false = omega arith
-
-same : (s : State) → Adds s s
-same s = record { clients = refl; most = omega arith }
 
 post_adds : (s t : State) (c x : ℕ) → post s c x ≡ Ok t → Adds s t
 post_adds s t c x h =

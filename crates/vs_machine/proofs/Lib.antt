@@ -6,13 +6,16 @@ pub mod Calm
 pub mod Can
 pub mod Choices
 pub mod Counts
+pub mod Due
 pub mod Five
 pub mod Frame
 pub mod Histories
 pub mod Ideals
+pub mod Inputs
 pub mod Keeping
 pub mod Kept
 pub mod Leaves
+pub mod Linked
 pub mod Numbers
 pub mod Once
 pub mod Opens
@@ -26,6 +29,7 @@ pub mod Reached
 pub mod Restarts
 pub mod Rising
 pub mod Seals
+pub mod Single
 pub mod Steps
 pub mod Ups
 pub mod Waits

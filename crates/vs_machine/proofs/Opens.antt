@@ -1,5 +1,5 @@
 -- A coherent opening has the whole of what holds inside.
-use Rattle.std.proofs.Common.{◌≡◌, ℕ, zero, suc, inl, inr, ◌≤◌, ◌<◌, arith, Bool, true, false, refl, sym, ap, subst, ◌∙◌, [], length, Option, Some, None}
+use Rattle.std.proofs.Common.{◌≡◌, ℕ, zero, suc, inl, inr, ◌≤◌, ◌<◌, arith, Bool, true, false, refl, sym, ap, subst, ◌∙◌, List, [], length, Option, Some, None}
 use Rattle.std.specs.Prelude.{◌≢◌, ◌⊎◌, ◌||◌, if◌then◌else◌, All, slice_get, unwrap_or}
 use Rattle.std.specs.Option.{option_map_or}
 use Rattle.std.proofs.lemmas.Bool.{cases_eq}
@@ -8,14 +8,15 @@ use Rattle.std.proofs.lemmas.List.Elements.{All-nil}
 use Rattle.std.proofs.lemmas.Option.{slice_get_cases}
 use Rattle.vs_space.specs.declared.status.Status.{Status}
 use Rattle.vs_space.specs.declared.status.Status.TheVariants.{Active, Pinned, Sending, Receiving, Sent, Garbage}
-use Rattle.vs_script.specs.declared.command.Command.{Command}
 use Rattle.vs_config.specs.Configuration.{Configuration}
 use Rattle.vs_machine.specs.Tables.{is_to, least_to, or_else}
 use Rattle.vs_machine.specs.State.{has_bucket}
 use Rattle.vs_machine.specs.Coherence.{IsServing, IsAway, IsServed, IsSending, HasSent, IsReceiving, is_sending, owner_at, names}
 use Rattle.vs_machine.specs.Kinds.Connections.{is_receiving}
 use Rattle.vs_machine.specs.Kinds.Rebalancing.{is_active, is_pinned}
-use Rattle.vs_machine.specs.Opening.{Scripts, Holdings, IsLawfulCommand, script_of, base_of, opening}
+use Rattle.vs_script.specs.Lawful.{IsLawfulCommand}
+use Rattle.vs_script.specs.Scripts.{Scripts, script_of}
+use Rattle.vs_machine.specs.Opening.{Holdings, base_of, opening}
 use Rattle.vs_machine.specs.Runs.{IsOpening}
 use Rattle.vs_machine.specs.Whole.{Whole}
 use Rattle.vs_machine.specs.Inner.Owner.{Owns, Beside, IsPlaced}
@@ -176,6 +177,14 @@ or_zero (Some o) = o
 nothing : {A : Type 0} (i : ℕ) (x : A) → slice_get [] i ≡ Some x → ⊥
 nothing {A} i x h = elim (slice_get_cases {X = A} [] i).1 [ inl g ↦ absurd (omega (arith, g.1)) | inr g ↦ absurd (cc (h, g.1)) ]
 
+-- what holds of each item of all scripts holds of those of one
+pub each_script : {A : Type 0} (P : A → Type 0) (scripts : List (List A)) (k : ℕ) → All (All P) scripts → All P (script_of scripts k)
+each_script P scripts zero h = All-nil P
+each_script P scripts (suc k) h = elim (slice_get_cases scripts k).1 [
+  | inl g ↦ subst (λ w. All P (unwrap_or w [])) (sym g.2) (subst (All P) g.3 (h k g.0 g.1))
+  | inr g ↦ subst (λ w. All P (unwrap_or w [])) (sym g.1) (All-nil P)
+]
+
 module _ (config : Configuration) (scripts : Scripts) (held : Holdings) (o : IsOpening config scripts held) where
   abbrev pub owner : ℕ → ℕ
   owner b = or_zero (owner_at (λ x. held.entry x b) (length config.sets))
@@ -199,6 +208,13 @@ module _ (config : Configuration) (scripts : Scripts) (held : Holdings) (o : IsO
   unknown b out =
       ap (λ p. or_else p (least_to (λ x. is_receiving (held.entry x b)) (length config.sets))) (none_passes (λ x. has_it (held.entry x b)) (length config.sets) (λ x. ap has_it (o.holdings.buckets x b out)))
       ∙ none_passes (λ x. is_receiving (held.entry x b)) (length config.sets) (λ x. ap is_receiving (o.holdings.buckets x b out))
+
+  has_known : (b x : ℕ) → held.entry x b ≢ None → has_bucket (opening config scripts held) b ≡ true
+  has_known b x there = by (has_bucket (opening config scripts held) b) refl
+    where
+      by : (t : Bool) → has_bucket (opening config scripts held) b ≡ t → t ≡ true
+      by true e = refl
+      by false e = absurd (there (o.holdings.buckets x b e))
 
   -- ---- one bucket
 
@@ -225,13 +241,7 @@ module _ (config : Configuration) (scripts : Scripts) (held : Holdings) (o : IsO
   -- ---- the commands
 
   lawful_script : (k : ℕ) → All (IsLawfulCommand config.bucket_count (length config.sets)) (script_of scripts.operators k)
-  lawful_script zero = All-nil (IsLawfulCommand config.bucket_count (length config.sets))
-  lawful_script (suc k) =
-      let P : Command → Type 0 = IsLawfulCommand config.bucket_count (length config.sets) in
-      elim (slice_get_cases scripts.operators k).1 [
-        | inl h ↦ subst (λ w. All P (unwrap_or w [])) (sym h.2) (subst (All P) h.3 (o.lawful.commands k h.0 h.1))
-        | inr h ↦ subst (λ w. All P (unwrap_or w [])) (sym h.1) (All-nil P)
-      ]
+  lawful_script k = each_script (IsLawfulCommand config.bucket_count (length config.sets)) scripts.operators k o.lawful.commands
 
   -- ---- the layers
 
@@ -259,6 +269,7 @@ module _ (config : Configuration) (scripts : Scripts) (held : Holdings) (o : IsO
     };
     seals = λ b x h. refl;
     bounds = λ b x there. within_of x (within b x there);
+    known = has_known;
     waits = λ b x t h. absurd cc;
     epochs = λ b x t h. absurd cc;
     ups = record { calls = λ c x h g. refl; transfers = λ b x t h. refl; asks = λ b x a h. refl; messages = λ x y. All-nil _; replies = λ x y. All-nil _ };

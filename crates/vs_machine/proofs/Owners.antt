@@ -1,13 +1,10 @@
 -- What follows of one bucket from what is known of it.
 use Rattle.std.proofs.Common.{◌≡◌, ℕ, inl, inr, ◌≤◌, refl, sym, ap, subst, ◌∙◌, arith, Option, Some, None}
-use Rattle.std.specs.Prelude.{◌≢◌}
 use Rattle.std.proofs.lemmas.Bool.{cases_eq}
 use Rattle.vs_space.specs.declared.status.Status.{Status}
 use Rattle.vs_space.specs.declared.status.Status.TheVariants.{Active, Pinned, Sending, Receiving, Sent, Garbage}
 use Rattle.vs_history.specs.History.{rows_at, write_count}
 use Rattle.vs_send.specs.declared.transfer.Phase.{Phase}
-use Rattle.vs_send.specs.declared.transfer.Transfer.{Transfer}
-use Rattle.vs_machine.specs.Tables.{put}
 use Rattle.vs_machine.specs.State.{Bucket}
 use Rattle.vs_machine.specs.Coherence.{IsServing}
 use Rattle.vs_machine.specs.Kinds.Calls.{place_by}
@@ -16,7 +13,6 @@ use Rattle.vs_machine.specs.Inner.Phases.{PhaseFits}
 use Rattle.vs_machine.specs.Inner.Buckets.{BucketFits}
 use Rattle.vs_machine.specs.Inner.Calls.{ReadFits}
 use Rattle.vs_machine.specs.Inner.Lines.{IsIn}
-use Rattle.vs_machine.proofs.Frame.{put_there}
 use Rattle.vs_machine.proofs.Histories.{rows_at-all}
 
 -- an entry that serves is active or pinned, and only the owner's does
@@ -64,7 +60,3 @@ rows_read n o b x posted f reads = by_entry (b.entry x) refl reads
     by_entry (Some (Receiving z)) is h = absurd h
     by_entry (Some (Sent d)) is h = (h.within, h.rows_are)
     by_entry (Some Garbage) is h = absurd h
-
--- a transfer elsewhere, or one that isn't the one put away, is still there
-pub transfer_stays : (f : ℕ → Option Transfer) (x : ℕ) (v : Option Transfer) (z : ℕ) (t : Transfer) → f z ≡ Some t → f x ≢ Some t → put f x v z ≡ Some t
-transfer_stays f x v z t at other = elim (cases_eq z x) [ inl e ↦ absurd (other (ap f (sym e) ∙ at)) | inr ne ↦ put_there f x v z ne ∙ at ]

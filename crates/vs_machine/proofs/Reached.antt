@@ -35,7 +35,6 @@ use Rattle.vs_machine.proofs.Owners.{serving_owns}
 use Rattle.vs_machine.proofs.Possible.{both_are, bind_ok, ok_is}
 use Rattle.vs_machine.proofs.Steps.{step_whole}
 use Rattle.vs_machine.proofs.Kept.Acting.{held_at, runs_busy}
-use Rattle.vs_machine.proofs.Kept.Calls.{one_set}
 
 -- ---- along a run
 
@@ -189,10 +188,6 @@ mode_is Ro Ro e = refl
 mode_is Rw Rw e = refl
 mode_is Ro Rw e = absurd cc
 mode_is Rw Ro e = absurd cc
-
-set_is : (o : Option ℕ) (x : ℕ) → is_set o x ≡ true → o ≡ Some x
-set_is None x h = absurd cc
-set_is (Some y) x h = ap (λ z. Some z) (one_set (Some y) y x refl h)
 
 -- the call that is held
 pub record Held (s : State) (m : Mode) (x b c : ℕ) : Type 0 where

@@ -33,7 +33,7 @@ use Rattle.vs_machine.specs.declared.outcome.CommandOutcome.TheVariants.{Done, L
 use Rattle.vs_machine.specs.Tables.{put, least_to}
 use Rattle.vs_machine.specs.State.{State, Bucket, sets_of, answer, call_id, next_command, put_client, put_operator, with_entry, with_progress}
 use Rattle.vs_machine.specs.Step.{step}
-use Rattle.vs_machine.specs.Coherence.{IsServing, names, dest_or, owners}
+use Rattle.vs_machine.specs.Coherence.{handed_by, IsServing, names, dest_or, owners}
 use Rattle.vs_machine.specs.Kinds.Calls.{act, bucket_after, is_answered, cut_call}
 use Rattle.vs_machine.specs.Kinds.Connections.{received_at, with_page, bucket_taking, after_message, after_deliver, deliver, decision_by, decided, bucket_hearing, hear, counts_at}
 use Rattle.vs_machine.specs.Kinds.Faults.{send_fault}
@@ -59,7 +59,7 @@ use Rattle.vs_machine.proofs.Restarts.{owners_same}
 use Rattle.vs_machine.proofs.Kept.Acting.{held_at}
 use Rattle.vs_machine.proofs.Kept.Delivering.{head_is, head_fits}
 use Rattle.vs_machine.proofs.Kept.Pinning.{may_pin}
-use Rattle.vs_machine.proofs.Kept.Restarting.{owners_with, owners_kept, owners_restarted}
+use Rattle.vs_machine.proofs.Kept.Restarting.{owners_kept, owners_restarted}
 
 -- ---- one bucket
 
@@ -133,7 +133,7 @@ module _ (own : ℕ → ℕ) (s : State) (i : Inner own s) (f : SealsFit own s) 
   -- ---- a kept restart
 
   status_seals : (b x : ℕ) (e : Option Status) (st : Status) → (s.bucket b).entry x ≡ e → (let old = s.bucket b in StatusFits (sets_of s) (own b) old.entry old.transfer old.rows x e st)
-      → (q : ℕ) → SealFits (owners_with own (changes.SetStatus b st) q) (put s.bucket b (with_status (s.bucket b) x st) q)
+      → (q : ℕ) → SealFits (handed_by own (Some (changes.SetStatus b st)) q) (put s.bucket b (with_status (s.bucket b) x st) q)
   status_seals b x (Some Active) Pinned at g = entry_keeps b x (Some Pinned) (λ w h. absurd cc)
   status_seals b x (Some Pinned) Active at g = entry_keeps b x (Some Active) (λ w h. absurd cc)
   status_seals b x (Some Active) (Sending d) at g = entry_keeps b x (Some (Sending d)) (λ w h. absurd cc)
@@ -149,7 +149,7 @@ module _ (own : ℕ → ℕ) (s : State) (i : Inner own s) (f : SealsFit own s) 
   status_seals b x e st at g = absurd g
 
   changed_seals : (x : ℕ) (change : Change) → FitsIn (sets_of s) (own (bucket_of change)) (s.bucket (bucket_of change)) x change
-      → (q : ℕ) → SealFits (owners_with own change q) (put s.bucket (bucket_of change) (with_change (s.bucket (bucket_of change)) x change) q)
+      → (q : ℕ) → SealFits (handed_by own (Some change) q) (put s.bucket (bucket_of change) (with_change (s.bucket (bucket_of change)) x change) q)
   changed_seals x (changes.SetStatus b st) g = status_seals b x ((s.bucket b).entry x) st refl g
   changed_seals x (changes.AddRows b z page) g =
       let old = s.bucket b in

@@ -55,6 +55,7 @@ use Rattle.vs_machine.proofs.Pends.Recording.{stop_pends, fault_pends}
 use Rattle.vs_machine.proofs.Pends.Restarting.{restart_pends}
 use Rattle.vs_machine.proofs.Restarts.{owners_same}
 use Rattle.vs_machine.proofs.Seals.{step_seals}
+use Rattle.vs_machine.proofs.Linked.{AreLinked, are_linked}
 use Rattle.vs_machine.proofs.Ups.{step_ups}
 use Rattle.vs_machine.proofs.Waits.{step_epochs, step_waits}
 
@@ -99,34 +100,34 @@ step_inner own s t (Stop o) i u p a w h = stop_keeps own s t o i h
 step_inner own s t (Fault x n r) i u p a w h = fault_keeps own s t x n r i h
 step_inner own s t (Restart x kept by) i u p a w h = subst (λ o. Inner o t) (owners_same own s x kept by) (restart_keeps own s t x kept by i u w.posted p h)
 
-step_asks : (own : ℕ → ℕ) (s t : State) (e : Event) → Inner own s → UpFits s → PendingFits own s → AsksFit own s.bucket s.link → step s e ≡ Ok t → AsksFit (owners own s e) t.bucket t.link
-step_asks own s t (Post c x) i u p a h = subst (λ (v : State). AsksFit own v.bucket v.link) (can_post s t c x h).gives a
-step_asks own s t (Begin c) i u p a h = subst (λ (v : State). AsksFit own v.bucket v.link) (can_begin s t c h).gives a
-step_asks own s t (Act c) i u p a h = act_asks own s t c u a h
-step_asks own s t (End c) i u p a h = subst (λ (v : State). AsksFit own v.bucket v.link) (can_end s t c h).gives a
-step_asks own s t (Take c) i u p a h = subst (λ (v : State). AsksFit own v.bucket v.link) (can_take s t c h).gives a
-step_asks own s t (Cut o) i u p a h = subst (λ (m : (ℕ → Bucket) × (ℕ → ℕ → Connection)). AsksFit own m.0 m.1) (sym (cut_still (λ (v : State). (v.bucket, v.link)) (λ v cs os. refl) s t o h)) a
-step_asks own s t (Start o) i u p a h = start_asks own s t o u a h
-step_asks own s t (Haul o x d) i u p a h = haul_asks own s t o x d u a h
-step_asks own s t (NotYet x b) i u p a h = not_yet_asks own s t x b i u a h
-step_asks own s t (Freeze x b) i u p a h = freeze_asks own s t x b i u a h
-step_asks own s t (Chunk x b) i u p a h = chunk_asks own s t x b i u a h
-step_asks own s t (Seal x b) i u p a h = seal_asks own s t x b i u a h
-step_asks own s t (Last x b) i u p a h = last_asks own s t x b i u a h
-step_asks own s t (Abort x b) i u p a h = abort_asks own s t x b i u a h
-step_asks own s t (EndMove x b) i u p a h = end_move_asks own s t x b i u a h
-step_asks own s t (Deliver x y) i u p a h = deliver_asks own s t x y i u a h
-step_asks own s t (Hear x y) i u p a h = hear_asks own s t x y i u a h
-step_asks own s t (Close o) i u p a h = close_asks own s t o a h
-step_asks own s t (Ask x b) i u p a h = ask_asks own s t x b i a h
-step_asks own s t (Condemn x b) i u p a h = condemn_asks own s t x b u a h
-step_asks own s t (Wipe x b) i u p a h = wipe_asks own s t x b u a h
-step_asks own s t (Forget x b) i u p a h = forget_asks own s t x b u a h
-step_asks own s t (Pin o) i u p a h = pin_asks own s t o u a h
-step_asks own s t (Plan o) i u p a h = plan_asks own s t o a h
-step_asks own s t (Stop o) i u p a h = stop_asks own s t o u a h
-step_asks own s t (Fault x n r) i u p a h = fault_asks own s t x n r u a h
-step_asks own s t (Restart x kept by) i u p a h = subst (λ o. AsksFit o t.bucket t.link) (owners_same own s x kept by) (restart_asks own s t x kept by i u p a h)
+step_asks : (own : ℕ → ℕ) (s t : State) (e : Event) → Inner own s → AreLinked s → UpFits s → PendingFits own s → AsksFit own s.bucket s.link → step s e ≡ Ok t → AsksFit (owners own s e) t.bucket t.link
+step_asks own s t (Post c x) i l u p a h = subst (λ (v : State). AsksFit own v.bucket v.link) (can_post s t c x h).gives a
+step_asks own s t (Begin c) i l u p a h = subst (λ (v : State). AsksFit own v.bucket v.link) (can_begin s t c h).gives a
+step_asks own s t (Act c) i l u p a h = act_asks own s t c u a h
+step_asks own s t (End c) i l u p a h = subst (λ (v : State). AsksFit own v.bucket v.link) (can_end s t c h).gives a
+step_asks own s t (Take c) i l u p a h = subst (λ (v : State). AsksFit own v.bucket v.link) (can_take s t c h).gives a
+step_asks own s t (Cut o) i l u p a h = subst (λ (m : (ℕ → Bucket) × (ℕ → ℕ → Connection)). AsksFit own m.0 m.1) (sym (cut_still (λ (v : State). (v.bucket, v.link)) (λ v cs os. refl) s t o h)) a
+step_asks own s t (Start o) i l u p a h = start_asks own s t o u a h
+step_asks own s t (Haul o x d) i l u p a h = haul_asks own s t o x d u a h
+step_asks own s t (NotYet x b) i l u p a h = not_yet_asks own s t x b i u a h
+step_asks own s t (Freeze x b) i l u p a h = freeze_asks own s t x b i u a h
+step_asks own s t (Chunk x b) i l u p a h = chunk_asks own s t x b i u a h
+step_asks own s t (Seal x b) i l u p a h = seal_asks own s t x b i u a h
+step_asks own s t (Last x b) i l u p a h = last_asks own s t x b i u a h
+step_asks own s t (Abort x b) i l u p a h = abort_asks own s t x b i u a h
+step_asks own s t (EndMove x b) i l u p a h = end_move_asks own s t x b i u a h
+step_asks own s t (Deliver x y) i l u p a h = deliver_asks own s t x y i u a h
+step_asks own s t (Hear x y) i l u p a h = hear_asks own s t x y i u a h
+step_asks own s t (Close o) i l u p a h = close_asks own s t o a h
+step_asks own s t (Ask x b) i l u p a h = ask_asks own s t x b i a h
+step_asks own s t (Condemn x b) i l u p a h = condemn_asks own s t x b u a h
+step_asks own s t (Wipe x b) i l u p a h = wipe_asks own s t x b u a h
+step_asks own s t (Forget x b) i l u p a h = forget_asks own s t x b u a h
+step_asks own s t (Pin o) i l u p a h = pin_asks own s t o u a h
+step_asks own s t (Plan o) i l u p a h = plan_asks own s t o a h
+step_asks own s t (Stop o) i l u p a h = stop_asks own s t o l u a h
+step_asks own s t (Fault x n r) i l u p a h = fault_asks own s t x n r l u a h
+step_asks own s t (Restart x kept by) i l u p a h = subst (λ o. AsksFit o t.bucket t.link) (owners_same own s x kept by) (restart_asks own s t x kept by i u p a h)
 
 cut_pends : (own : ℕ → ℕ) (s t : State) (o : ℕ) → PendingFits own s → cut_call s o ≡ Ok t → PendingFits own t
 cut_pends own s t o p h =
@@ -247,17 +248,21 @@ step_pairs own s t (Restart x kept by) i u p a q h = restart_pairs s t x kept by
 -- ---- the whole
 
 pub step_whole : KeptByEvents
-step_whole own s t e w h = record {
-  inner = step_inner own s t e w.inner w.ups w.pending w.asks w.order h;
-  bounds = step_bounds own s t e w.inner w.bounds h;
-  seals = step_seals own s t e w.inner w.pending w.seals h;
-  waits = step_waits own s t e w.inner w.ups w.waits w.epochs h;
-  epochs = step_epochs s t e w.epochs h;
-  ups = step_ups own s t e w.inner w.ups h;
-  asks = step_asks own s t e w.inner w.ups w.pending w.asks h;
-  pending = step_pends own s t e w.inner w.ups w.pending w.asks w.pairs h;
-  pairs = step_pairs own s t e w.inner w.ups w.pending w.asks w.pairs h;
-  once = step_once own s t e w.inner w.answers w.pending w.ups w.once h;
-  answers = step_answers own s t e w.inner w.once w.order w.answers h;
-  order = step_order own s t e w.inner w.ups w.answers w.order h;
-}
+step_whole own s t e w h =
+    let linked = are_linked own s w.inner w.bounds in
+    let entries = step_bounds own s t e w.inner w.pending (λ b x there. record { bucket = w.known b x there; set = w.bounds b x there }) h in
+    record {
+      inner = step_inner own s t e w.inner w.ups w.pending w.asks w.order h;
+      bounds = λ b x there. (entries b x there).set;
+      known = λ b x there. (entries b x there).bucket;
+      seals = step_seals own s t e w.inner w.pending w.seals h;
+      waits = step_waits s t e linked w.waits w.epochs h;
+      epochs = step_epochs s t e linked w.epochs h;
+      ups = step_ups own s t e w.inner w.ups h;
+      asks = step_asks own s t e w.inner linked w.ups w.pending w.asks h;
+      pending = step_pends own s t e w.inner w.ups w.pending w.asks w.pairs h;
+      pairs = step_pairs own s t e w.inner w.ups w.pending w.asks w.pairs h;
+      once = step_once own s t e w.inner w.answers w.pending w.ups w.once h;
+      answers = step_answers own s t e w.inner w.once w.order w.answers h;
+      order = step_order own s t e w.inner w.ups w.answers w.order h;
+    }

@@ -23,7 +23,7 @@ use Rattle.vs_event.specs.declared.event.RestartBy.{RestartBy}
 use Rattle.vs_event.specs.declared.event.RestartBy.TheVariants.{Line, Service}
 use Rattle.vs_event.specs.declared.reason.Reason.TheVariants as reason
 use Rattle.vs_history.specs.History.{write_count}
-use Rattle.vs_link.specs.Connection.{Connection, Message, bucket_of, rest, with_message, without_reply, closed}
+use Rattle.vs_link.specs.Connection.{Connection, Message, bucket_of, rest, with_message, without_reply, unused, closed}
 use Rattle.vs_link.specs.Connection as link
 use Rattle.vs_link.specs.declared.message.Heard.{Heard}
 use Rattle.vs_record.specs.Change.{Change}
@@ -37,7 +37,7 @@ use Rattle.vs_send.specs.declared.transfer.Transfer.{Transfer}
 use Rattle.vs_machine.specs.declared.outcome.CommandFault.{CommandFault}
 use Rattle.vs_machine.specs.declared.outcome.CommandOutcome.TheVariants.{Done, Late, WasDown, WasUp}
 use Rattle.vs_machine.specs.State as state
-use Rattle.vs_machine.specs.State.{State, Bucket, Client, Operator, sets_of, is_set, is_draining, answer, call_id, put_client, put_operator, put_bucket, put_link, with_progress, with_entry, put_rows, with_transfer, with_ask}
+use Rattle.vs_machine.specs.State.{State, Bucket, Client, Operator, sets_of, is_link, is_set, is_draining, answer, call_id, put_client, put_operator, put_bucket, put_link, with_progress, with_entry, put_rows, with_transfer, with_ask}
 use Rattle.vs_machine.specs.Step.{step}
 use Rattle.vs_machine.specs.Tables.{put, least_to}
 use Rattle.vs_machine.specs.Kinds.Calls.{post, begin, act, «end», take, cut_call, place_of, bucket_after, is_answered}
@@ -418,8 +418,8 @@ gone_down_up s x i = record {
   calls = λ c y. calls (s.client c) y (is_at_set (s.client c).present.stage && is_set (s.client c).present.set x) refl (i.calls c y);
   transfers = λ b z t h. elim (put_split (s.bucket b).transfer x None z (Some t) h) [ inl e ↦ absurd (cc (e.1)) | inr e ↦ up_beside s.up x z e.0 (i.transfers b z t e.1) ];
   asks = λ b z a h. elim (put_split (s.bucket b).ask x None z (Some a) h) [ inl e ↦ absurd (cc (e.1)) | inr e ↦ up_beside s.up x z e.0 (i.asks b z a e.1) ];
-  messages = λ p q. (lines p q (p == x) refl (q == x) refl).0;
-  replies = λ p q. (lines p q (p == x) refl (q == x) refl).1;
+  messages = λ p q. (lines p q (is_link s p q) (p == x) refl (q == x) refl).0;
+  replies = λ p q. (lines p q (is_link s p q) (p == x) refl (q == x) refl).1;
 }
   where
     calls : (c : Client) (y : ℕ) (here : Bool) → (is_at_set c.present.stage && is_set c.present.set x) ≡ here → (has_begun c.present.stage ≡ true → c.present.set ≡ Some y → IsUp s y)
@@ -428,10 +428,11 @@ gone_down_up s x i = record {
     calls c y false is f h at =
         up_beside s.up x y (λ e. absurd (cc (is, both_hold (is_at_set c.present.stage) (is_set c.present.set x) (begun_is_at c.present.stage h) (is_set_here c.present.set y x at e)))) (f h at)
 
-    lines : (p q : ℕ) (a : Bool) → (p == x) ≡ a → (d : Bool) → (q == x) ≡ d → Lines (gone_down s x) p q (if a || d then closed (s.link p q) else s.link p q)
-    lines p q true ea d ed = (All-nil _, All-nil _)
-    lines p q false ea true ed = (All-nil _, All-nil _)
-    lines p q false ea false ed =
+    lines : (p q : ℕ) (there a : Bool) → (p == x) ≡ a → (d : Bool) → (q == x) ≡ d → Lines (gone_down s x) p q (if there then (if a || d then closed (s.link p q) else s.link p q) else unused)
+    lines p q false a ea d ed = (All-nil _, All-nil _)
+    lines p q true true ea d ed = (All-nil _, All-nil _)
+    lines p q true false ea true ed = (All-nil _, All-nil _)
+    lines p q true false ea false ed =
         let both : IsUp s p × IsUp s q → IsUp (gone_down s x) p × IsUp (gone_down s x) q = λ h. (up_beside s.up x p (eqb-false p x ea) h.0, up_beside s.up x q (eqb-false q x ed) h.1) in (
           All-weaker (λ m. IsUp s p × IsUp s q) (λ m. IsUp (gone_down s x) p × IsUp (gone_down s x) q) (λ m. both) (s.link p q).calls (i.messages p q),
           All-weaker (λ m. IsUp s p × IsUp s q) (λ m. IsUp (gone_down s x) p × IsUp (gone_down s x) q) (λ m. both) (s.link p q).replies (i.replies p q),

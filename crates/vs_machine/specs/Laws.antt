@@ -1,21 +1,28 @@
 -- What holds of every run from a coherent opening.
-use Rattle.std.specs.Prelude.{◌≡◌, ℕ, zero, suc, Bool, Option, Some, None, Ok, ◌*◌, ◌≤◌, List, length}
+use Rattle.std.specs.Prelude.{◌≡◌, ℕ, zero, suc, Bool, true, false, Option, Some, None, Ok, ◌+◌, ◌*◌, ◌≤◌, List, length, slice_get}
 use Rattle.std.specs.List.{sum_by}
 use Rattle.vs_base.specs.declared.numbers.Mode.TheVariants.{Ro, Rw}
 use Rattle.vs_space.specs.declared.status.Cause.{Cause}
 use Rattle.vs_space.specs.declared.status.Status.TheVariants.{Active, Receiving, Garbage}
 use Rattle.vs_space.specs.declared.status.Verdict.TheVariants as verdict
 use Rattle.vs_calls.specs.Outcomes.{Outcome, Reply}
+use Rattle.vs_calls.specs.Progress.{is_idle}
 use Rattle.vs_calls.specs.declared.stage.Stage.TheVariants as stage
 use Rattle.vs_event.specs.declared.event.Event.{Event}
 use Rattle.vs_event.specs.declared.event.Event.TheVariants.{Begin, Condemn, Wipe, Forget}
-use Rattle.vs_history.specs.History.{rows_at, write_count}
+use Rattle.vs_history.specs.History.{Entry, rows_at, write_count}
 use Rattle.vs_record.specs.Change.{Change}
 use Rattle.vs_script.specs.Calls.{Call}
-use Rattle.vs_machine.specs.State.{State, sets_of, next_call, references}
+use Rattle.vs_script.specs.declared.command.Command as declared_command
+use Rattle.vs_script.specs.declared.command.Command.TheVariants.{Send}
+use Rattle.vs_send.specs.declared.transfer.By.{By}
+use Rattle.vs_send.specs.declared.transfer.By.TheVariants.{Command, Haul}
+use Rattle.vs_send.specs.declared.transfer.Transfer.{Transfer}
+use Rattle.vs_machine.specs.State.{State, Client, Operator, sets_of, next_call, next_command, references}
 use Rattle.vs_config.specs.Configuration.{Configuration}
-use Rattle.vs_machine.specs.Tables.{sum_to}
-use Rattle.vs_machine.specs.Opening.{Scripts, Holdings, opening}
+use Rattle.vs_machine.specs.Tables.{is_to, sum_to}
+use Rattle.vs_script.specs.Scripts.{Scripts}
+use Rattle.vs_machine.specs.Opening.{Holdings, opening}
 use Rattle.vs_machine.specs.Step.{step, run}
 use Rattle.vs_machine.specs.Coherence.{IsCoherent, AcceptsWrites, owners}
 use Rattle.vs_machine.specs.History.{AreLegal, AreAnswered, KeepsCallerOrder, IsFresh, IsFrozenCopy}
@@ -24,6 +31,10 @@ use Rattle.vs_machine.specs.Kinds.Stops.{restarted}
 use Rattle.vs_machine.specs.Runs.{IsReached}
 use Rattle.vs_machine.specs.Whole.{Whole}
 use Rattle.vs_machine.specs.Inner.Answers.{HasAnswers, HasStood}
+use Rattle.vs_machine.specs.Inner.Once.{all_entries}
+use Rattle.vs_machine.specs.Inputs.{HasInputs, SameInputs, HasFew, IsCallIn, IsCommandIn}
+
+-- ---- every event
 
 -- every event keeps what holds inside
 abbrev pub KeptByEvents : Type 0
@@ -37,34 +48,52 @@ WholeRuns = (s : State) → IsReached s → (own : ℕ → ℕ) × Whole own s
 abbrev pub ReachesOn : Type 0
 ReachesOn = (s t : State) (e : Event) → IsReached s → step s e ≡ Ok t → IsReached t
 
--- after each event the state is coherent, and at most one set accepts a bucket's writes
+-- ---- who has a bucket
+
+-- after each event the state is coherent
 abbrev pub CoherentRuns : Type 0
 CoherentRuns = (s : State) → IsReached s → IsCoherent s
 
+-- at most one set accepts a bucket's writes
 abbrev pub OneAccepts : Type 0
 OneAccepts = (s : State) → IsReached s → (b x y : ℕ) → AcceptsWrites s x b → AcceptsWrites s y b → x ≡ y
 
--- each history is legal, each call answered Reply stands in it, and one answered Spent in none
+-- ---- histories
+
+-- each history is legal
 abbrev pub LegalRuns : Type 0
 LegalRuns = (s : State) → IsReached s → AreLegal s
 
--- and a present call that has its answers stands with them
-abbrev pub PresentRuns : Type 0
-PresentRuns = (s : State) → IsReached s → (c : ℕ) (k : Call) → next_call (s.client c) ≡ Some k → HasAnswers (s.client c).present.stage → HasStood s c k
+-- no call stands in the histories of two buckets, nor twice in one: two entries of a call are the same
+abbrev pub SingleRuns : Type 0
+SingleRuns = (s : State) → IsReached s → (b d m n : ℕ) (e f : Entry) → slice_get (all_entries (s.bucket b).history) m ≡ Some e → slice_get (all_entries (s.bucket d).history) n ≡ Some f
+    → e.id ≡ f.id → (b ≡ d) × (m ≡ n)
 
+-- each call answered Reply stands in its bucket's history with that place and those answers, and one answered Spent in none
 abbrev pub AnsweredRuns : Type 0
 AnsweredRuns = (s : State) → IsReached s → AreAnswered s
 
+-- a present call that has its answers stands with them
+abbrev pub PresentRuns : Type 0
+PresentRuns = (s : State) → IsReached s → (c : ℕ) (k : Call) → next_call (s.client c) ≡ Some k → HasAnswers (s.client c).present.stage → HasStood s c k
+
+-- ---- order and freshness
+
+-- a later call of a client isn't placed before an earlier one of the same bucket
 abbrev pub OrderedRuns : Type 0
 OrderedRuns = (s : State) → IsReached s → (c : ℕ) → KeepsCallerOrder (s.client c)
 
+-- a call that acts sees at least what was there when it was posted
 abbrev pub FreshRuns : Type 0
 FreshRuns = (s : State) → IsReached s → IsFresh s
 
+-- a set from which a bucket was sent keeps the rows that its reads see
 abbrev pub FrozenRuns : Type 0
 FrozenRuns = (s : State) → IsReached s → IsFrozenCopy s
 
--- nothing that a call holds is collected
+-- ---- collection
+
+-- no call holds the bucket at the set
 abbrev pub IsUnreferenced : State → ℕ → ℕ → Type 0
 IsUnreferenced s x b = (references s Ro x b ≡ 0) × (references s Rw x b ≡ 0)
 
@@ -75,19 +104,26 @@ Collects s (Wipe x b) y q t = (y ≡ x) × (q ≡ b)
 Collects s (Forget x b) y q t = (y ≡ x) × (q ≡ b)
 Collects s e y q t = (z : ℕ) × ((s.bucket q).entry y ≡ Some (Receiving z)) × ((t.bucket q).entry y ≡ Some Garbage)
 
+-- nothing that a call holds is collected
 abbrev pub UnheldRuns : Type 0
 UnheldRuns = (s t : State) (e : Event) → IsReached s → step s e ≡ Ok t → (x b : ℕ) → Collects s e x b t → IsUnreferenced s x b
 
 -- ---- activations
 
--- a set that becomes active has the rows that the sender had at its seal: those of the place that the sender kept then, after
--- which no write came
+-- set y has the rows that set x had when it sealed the bucket: those of the place that x kept then, after which no write came
 pub record HasSealedRows (s : State) (b y x : ℕ) : Type 0 where
   pub rows : (s.bucket b).rows y ≡ rows_at (s.bucket b).history ((s.bucket b).kept x)
   pub since : (s.bucket b).kept x ≡ write_count (s.bucket b).history
 
+-- it has them before the event, and the event leaves them
+pub record KeepsSealedRows (s t : State) (b y x : ℕ) : Type 0 where
+  pub before : HasSealedRows s b y x
+  pub after : HasSealedRows t b y x
+  pub same : (t.bucket b).rows y ≡ (s.bucket b).rows y
+
+-- a set that becomes active has the rows that the sender had at its seal
 abbrev pub ActivatedRuns : Type 0
-ActivatedRuns = (s t : State) (e : Event) → IsReached s → step s e ≡ Ok t → (b y x : ℕ) → (s.bucket b).entry y ≡ Some (Receiving x) → (t.bucket b).entry y ≡ Some Active → HasSealedRows s b y x
+ActivatedRuns = (s t : State) (e : Event) → IsReached s → step s e ≡ Ok t → (b y x : ℕ) → (s.bucket b).entry y ≡ Some (Receiving x) → (t.bucket b).entry y ≡ Some Active → KeepsSealedRows s t b y x
 
 -- ---- how many events it took
 
@@ -124,3 +160,69 @@ ChoiceRuns = (s : State) → IsReached s → (keep : ℕ → Bool) → IsCoheren
 abbrev pub RefusedRuns : Type 0
 RefusedRuns = (s t : State) (c x : ℕ) (k : Call) (cause : Cause) → step s (Begin c) ≡ Ok t → next_call (s.client c) ≡ Some k → (s.client c).present.set ≡ Some x
     → (t.client c).present.stage ≡ stage.Refused → (t.client c).present.cause ≡ Some cause → verdict_at s x k ≡ verdict.Refused cause
+
+-- ---- what a run is given
+
+-- each reached state has a configuration and scripts, which are lawful
+abbrev pub InputRuns : Type 0
+InputRuns = (s : State) → IsReached s → HasInputs s
+
+-- an event leaves them as they were
+abbrev pub KeptInputs : Type 0
+KeptInputs = (s t : State) (e : Event) → step s e ≡ Ok t → SameInputs s t
+
+-- and so does a run: they are those that it began with
+abbrev pub BegunInputs : Type 0
+BegunInputs = (s t : State) (events : List Event) → run s events ≡ Ok t → SameInputs s t
+
+-- there are few clients and operators, and few calls and commands of each
+abbrev pub FewRuns : Type 0
+FewRuns = (s : State) → IsReached s → HasFew s
+
+-- the present call of a client, or its next, is lawful
+abbrev pub CallRuns : Type 0
+CallRuns = (s : State) → IsReached s → (c : ℕ) (k : Call) → next_call (s.client c) ≡ Some k → IsCallIn s k
+
+-- the next command of an operator is lawful
+abbrev pub CommandRuns : Type 0
+CommandRuns = (s : State) → IsReached s → (o : ℕ) (k : declared_command.Command) → next_command (s.operator o) ≡ Some k → IsCommandIn s k
+
+-- the present call has the number after those that were answered
+abbrev pub NumberedRuns : Type 0
+NumberedRuns = (s : State) → IsReached s → (c : ℕ) → (s.client c).present.number ≡ length (s.client c).answered + 1
+
+-- ---- what is answered of it, and who waits
+
+-- no more is answered of a script than it has
+pub record IsWithinScripts (s : State) : Type 0 where
+  pub clients : (c : ℕ) → length (s.client c).answered ≤ length (s.client c).script
+  pub operators : (o : ℕ) → length (s.operator o).answered ≤ length (s.operator o).script
+
+abbrev pub WithinRuns : Type 0
+WithinRuns = (s : State) → IsReached s → IsWithinScripts s
+
+-- the client's present call is there, and was last posted at a set, of n
+pub record IsPosted (n : ℕ) (c : Client) : Type 0 where
+  pub call : Call
+  pub called : next_call c ≡ Some call
+  pub set : ℕ
+  pub at : c.present.set ≡ Some set
+  pub known : is_to n set ≡ true
+
+-- a present call that isn't idle was posted
+abbrev pub PostedRuns : Type 0
+PostedRuns = (s : State) → IsReached s → (c : ℕ) → is_idle (s.client c).present.stage ≡ false → IsPosted (sets_of s) (s.client c)
+
+-- the operator's next command moves the bucket from set x to set d, and began to
+pub record IsMoving (o : Operator) (b x d : ℕ) : Type 0 where
+  pub moving : o.moving ≡ true
+  pub named : next_command o ≡ Some (Send b x d)
+
+-- a transfer of the bucket was begun by one of n operators: by its next command, or in a round
+abbrev pub IsBegunBy : ℕ → (ℕ → Operator) → ℕ → ℕ → ℕ → By → Type 0
+IsBegunBy n operators b x d (Command o) = (is_to n o ≡ true) × IsMoving (operators o) b x d
+IsBegunBy n operators b x d (Haul o) = is_to n o ≡ true
+
+-- who began a transfer is there to be answered
+abbrev pub TransferRuns : Type 0
+TransferRuns = (s : State) → IsReached s → (b x : ℕ) (t : Transfer) → (s.bucket b).transfer x ≡ Some t → IsBegunBy s.operators s.operator b x t.dest t.by

@@ -3,6 +3,7 @@ pub mod Check
 pub mod Coherence
 pub mod History
 pub mod Inner
+pub mod Inputs
 pub mod Kinds
 pub mod Laws
 pub mod Opening
@@ -15,3 +16,5 @@ pub mod Step
 pub mod Tables
 pub mod Whole
 pub mod Worked
+pub use Rattle.vs_script.specs.Lawful
+pub use Rattle.vs_script.specs.Scripts

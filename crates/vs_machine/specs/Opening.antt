@@ -1,80 +1,20 @@
 -- What a run begins with.
-use Rattle.std.specs.Prelude.{◌≢◌, ℕ, ◌≤◌, Bool, true, false, List, [], length, All, Option, None, slice_get, unwrap_or, zero, suc}
-use Rattle.std.specs.List.{sum_by, count_by}
+use Rattle.std.specs.Prelude.{ℕ, ◌≤◌, true, false, List, [], length, All, Option, None}
+use Rattle.std.specs.List.{sum_by}
 use Rattle.std.specs.Option.{option_map_or}
-use Rattle.vs_base.specs.declared.numbers.Mode.{Mode}
-use Rattle.vs_base.specs.declared.numbers.Mode.TheVariants.{Ro, Rw}
 use Rattle.vs_rows.specs.RowMap.{RowMap}
-use Rattle.vs_rows.specs.declared.op.Op.{Op}
-use Rattle.vs_rows.specs.declared.op.Op.TheVariants.{Get, Count, Scan}
 use Rattle.vs_space.specs.declared.status.Status.{Status}
 use Rattle.vs_calls.specs.Progress.{fresh}
 use Rattle.vs_config.specs.Configuration.{Configuration}
 use Rattle.vs_link.specs.Connection.{unused}
 use Rattle.vs_script.specs.Calls.{Call}
+use Rattle.vs_script.specs.Lawful.{IsWithin, IsLawfulCall, IsLawfulCommand, IsCutOf, scans_in}
+use Rattle.vs_script.specs.Scripts.{Scripts, script_of}
 use Rattle.vs_script.specs.declared.command.Command.{Command}
-use Rattle.vs_script.specs.declared.command.Command.TheVariants.{Send, Pin, Unpin, Close, Cut, Stop, Restart, Balance}
 use Rattle.vs_machine.specs.State.{State, Bucket, Client, Operator}
 use Rattle.vs_machine.specs.Coherence.{owner_at}
 
--- the calls of each client, and the commands of each operator
-pub record Scripts : Type 0 where
-  pub clients : List (List Call)
-  pub operators : List (List Command)
-
--- the script of this number, from 1
-abbrev pub script_of : {A : Type 0} → List (List A) → ℕ → List A
-script_of scripts zero = []
-script_of scripts (suc k) = unwrap_or (slice_get scripts k) []
-
 -- ---- lawful scripts
-
-abbrev pub IsWithin : ℕ → ℕ → Type 0
-IsWithin n k = (1 ≤ k) × (k ≤ n)
-
--- a command over m buckets and n sets; a cut names a client and a call by their numbers
-abbrev pub IsLawfulCommand : ℕ → ℕ → Command → Type 0
-IsLawfulCommand m n (Send b x d) = IsWithin m b × IsWithin n x × IsWithin n d
-IsLawfulCommand m n (Pin b x) = IsWithin m b × IsWithin n x
-IsLawfulCommand m n (Unpin b x) = IsWithin m b × IsWithin n x
-IsLawfulCommand m n (Close x y) = IsWithin n x × IsWithin n y × (x ≢ y)
-IsLawfulCommand m n (Cut c k) = Unit {0}
-IsLawfulCommand m n (Stop x) = IsWithin n x
-IsLawfulCommand m n (Restart x) = IsWithin n x
-IsLawfulCommand m n Balance = Unit {0}
-
--- an operation of a read
-abbrev pub IsReading : Op → Type 0
-IsReading (Get k) = Unit {0}
-IsReading Count = Unit {0}
-IsReading (Scan k n) = Unit {0}
-IsReading op = ⊥
-
-abbrev pub IsShortScan : Op → Type 0
-IsShortScan (Scan k n) = IsWithin 100 n
-IsShortScan op = Unit {0}
-
-abbrev pub IsAllowedIn : Mode → Op → Type 0
-IsAllowedIn Ro op = IsReading op
-IsAllowedIn Rw op = Unit {0}
-
-pub record IsLawfulCall (m : ℕ) (k : Call) : Type 0 where
-  pub bucket : IsWithin m k.bucket
-  pub count : IsWithin 16 (length k.ops)
-  pub allowed : All (IsAllowedIn k.mode) k.ops
-  pub scans : All IsShortScan k.ops
-
--- a cut names a call that there is
-abbrev pub IsCutOf : List (List Call) → Command → Type 0
-IsCutOf clients (Cut c k) = IsWithin (length clients) c × IsWithin (length (script_of clients c)) k
-IsCutOf clients command = Unit {0}
-
-abbrev pub is_scan : Op → Bool
-is_scan (Scan k n) = true
-is_scan op = false
-
-abbrev pub scans_in : List Call → ℕ
-scans_in calls = sum_by (λ k. count_by is_scan k.ops) calls
 
 pub record IsLawful (config : Configuration) (scripts : Scripts) : Type 0 where
   pub buckets : IsWithin 30000 config.bucket_count

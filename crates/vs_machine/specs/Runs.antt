@@ -6,7 +6,8 @@ use Rattle.vs_config.specs.Configuration.{Configuration}
 use Rattle.vs_machine.specs.State.{State, has_set, has_bucket}
 use Rattle.vs_machine.specs.Step.{run}
 use Rattle.vs_machine.specs.Coherence.{IsCoherent}
-use Rattle.vs_machine.specs.Opening.{Scripts, Holdings, IsLawful, opening}
+use Rattle.vs_script.specs.Scripts.{Scripts}
+use Rattle.vs_machine.specs.Opening.{Holdings, IsLawful, opening}
 
 -- the journals hold nothing of other sets and other buckets, and the rows of each bucket rise by key
 pub record AreHoldings (s : State) (held : Holdings) : Type 0 where

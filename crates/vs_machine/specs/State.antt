@@ -1,5 +1,5 @@
 -- The state of a cluster, as plain data: tables are functions, and a bucket's come first.
-use Rattle.std.specs.Prelude.{ℕ, ◌-◌, ◌==◌, ◌&&◌, Bool, true, false, List, [], ◌∷◌, ◌++◌, length, Option, Some, None, slice_get}
+use Rattle.std.specs.Prelude.{ℕ, ◌-◌, ◌==◌, ◌&&◌, not, Bool, true, false, List, [], ◌∷◌, ◌++◌, length, Option, Some, None, slice_get}
 use Rattle.std.specs.Option.{option_map_or}
 use Rattle.vs_base.specs.declared.numbers.CallId.{CallId}
 use Rattle.vs_base.specs.declared.numbers.Mode.{Mode}
@@ -76,6 +76,10 @@ has_set s x = is_to (sets_of s) x
 
 abbrev pub has_bucket : State → ℕ → Bool
 has_bucket s b = is_to s.config.bucket_count b
+
+-- a connection leads from a set of the cluster to another
+abbrev pub is_link : State → ℕ → ℕ → Bool
+is_link s x y = has_set s x && has_set s y && not (x == y)
 
 abbrev pub has_client : State → ℕ → Bool
 has_client s c = is_to s.clients c

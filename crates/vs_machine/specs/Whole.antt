@@ -1,7 +1,7 @@
 -- The whole of what holds inside, for the owners of the buckets.
 use Rattle.std.specs.Prelude.{◌≡◌, ◌≢◌, ℕ, ◌≤◌, true, All, None}
 use Rattle.vs_machine.specs.State.{State, Operator, sets_of, has_bucket}
-use Rattle.vs_machine.specs.Opening.{IsLawfulCommand}
+use Rattle.vs_script.specs.Lawful.{IsLawfulCommand}
 use Rattle.vs_machine.specs.Inner.Buckets.{BucketFits}
 use Rattle.vs_machine.specs.Inner.Calls.{ClientFits, AreAbsent}
 use Rattle.vs_machine.specs.Inner.Lines.{LinkFits, WaitsFit}
@@ -30,8 +30,9 @@ pub record Inner (own : ℕ → ℕ) (s : State) : Type 0 where
 pub record Whole (own : ℕ → ℕ) (s : State) : Type 0 where
   pub inner : Inner own s
   pub seals : SealsFit own s
-  -- only sets of the cluster have entries
+  -- only sets of the cluster have entries, and only of its buckets
   pub bounds : (b x : ℕ) → (s.bucket b).entry x ≢ None → (1 ≤ x) × (x ≤ sets_of s)
+  pub known : (b x : ℕ) → (s.bucket b).entry x ≢ None → has_bucket s b ≡ true
   pub waits : WaitsFit s.bucket s.link
   pub epochs : WaitsBelow s.bucket s.link
   pub ups : UpFits s

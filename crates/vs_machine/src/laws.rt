@@ -1,6 +1,6 @@
 //! What holds of every run from a coherent opening.
 
-ghost use Rattle.vs_machine.specs.Laws.{ActivatedRuns, AnsweredRuns, ChoiceRuns, CoherentRuns, FiveEventRuns, FreshRuns, FrozenRuns, KeptByEvents, LegalRuns, OneAccepts, OrderedRuns, PresentRuns, ReachesOn, RefusedRuns, UnheldRuns, WholeRuns};
+ghost use Rattle.vs_machine.specs.Laws.{ActivatedRuns, AnsweredRuns, BegunInputs, CallRuns, ChoiceRuns, CoherentRuns, CommandRuns, FewRuns, FiveEventRuns, FreshRuns, FrozenRuns, InputRuns, KeptByEvents, KeptInputs, LegalRuns, NumberedRuns, OneAccepts, OrderedRuns, PostedRuns, PresentRuns, ReachesOn, RefusedRuns, SingleRuns, TransferRuns, UnheldRuns, WholeRuns, WithinRuns};
 
 /// Each event keeps what holds inside, so each reached state has it; and a possible event from a reached state reaches the next.
 pub fn every_event()
@@ -17,10 +17,12 @@ pub fn one_owner()
     ensures one { OneAccepts }
 {}
 
-/// One legal history for each bucket: each call that was answered with a reply stands in it with
-/// that place and those answers, each once, and one that was answered Spent stands nowhere.
+/// One legal history for each bucket: no call stands in two of them, nor twice in one; each call
+/// that was answered with a reply stands in its bucket's, with that place and those answers, and
+/// one that was answered Spent stands nowhere.
 pub fn legal_histories()
     ensures legal { LegalRuns }
+    ensures single { SingleRuns }
     ensures answered { AnsweredRuns }
     ensures present { PresentRuns }
 {}
@@ -51,4 +53,24 @@ pub fn held_buckets()
 /// A call is refused only with the verdict of the set that was asked, or because that is down.
 pub fn true_refusals()
     ensures { RefusedRuns }
+{}
+
+/// What a run is given stays as it was: each state has the lawful configuration and the lawful scripts
+/// that the run began with. So the calls and commands that are to come are lawful, and few.
+pub fn given_inputs()
+    ensures inputs { InputRuns }
+    ensures kept { KeptInputs }
+    ensures begun { BegunInputs }
+    ensures few { FewRuns }
+    ensures calls { CallRuns }
+    ensures commands { CommandRuns }
+    ensures numbered { NumberedRuns }
+{}
+
+/// Whoever is to be answered is there: a call that was posted, and the command or the round that began a
+/// transfer. And no more is answered of a script than it has.
+pub fn due_answers()
+    ensures within { WithinRuns }
+    ensures posted { PostedRuns }
+    ensures begun { TransferRuns }
 {}

@@ -6,8 +6,8 @@ mod outcome;
 mod runs;
 
 pub use laws::{
-    every_event, five_events, held_buckets, legal_histories, one_owner, ordered_calls, sealed_rows,
-    true_refusals,
+    due_answers, every_event, five_events, given_inputs, held_buckets, legal_histories, one_owner,
+    ordered_calls, sealed_rows, true_refusals,
 };
 pub use outcome::{CommandFault, CommandOutcome};
 pub use runs::{commanded_runs, moved_runs, recovered_runs, stopped_runs, waited_runs};

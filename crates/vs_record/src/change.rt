@@ -22,7 +22,23 @@ pub enum Change {
 }
 
 impl Change {
-    ghost use Rattle.vs_record.specs.Change.{change};
+    ghost use Rattle.vs_record.specs.Change.{change, bucket_of};
+
+    /// The greatest number of a call.
+    pub const MAX_CALL: u32 = 200_000;
+
+    /// The bucket that it is of.
+    pub fn bucket(&self) -> BucketId
+        ensures { result ≡ bucket_of (change self.now) }
+    {
+        match self {
+            Change::Status(bucket, _) => *bucket,
+            Change::RowsPage(bucket, _, _) => *bucket,
+            Change::Write(_, bucket, _) => *bucket,
+            Change::Wipe(bucket, _) => *bucket,
+            Change::Forget(bucket) => *bucket,
+        }
+    }
 
     pub fn try_clone(&self) -> Result<Change, NoMemory>
         ensures { IfOk result (λ copy. change copy ≡ change self.now) }

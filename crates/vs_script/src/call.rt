@@ -1,7 +1,16 @@
 //! The calls of a client.
 
 ghost use Rattle.std.specs.Prelude.{◌≡◌, IfOk};
+ghost use Rattle.vs_text.specs.Lines.{words_in};
+ghost use Rattle.vs_script.specs.Calls.{call, calls};
+ghost use Rattle.vs_script.specs.Given.{MayGive, Takes};
+ghost use Rattle.vs_script.specs.Lines.{call_of, mode_at};
 
+use crate::fault::ScriptKind;
+use crate::line_fault::LineFault;
+use crate::ops::ops;
+use crate::words::Words;
+use std::alloc::Global;
 use vs_base::{BucketId, Items, Mode, NoMemory};
 use vs_rows::Ops;
 
@@ -16,9 +25,31 @@ pub struct Call {
 /// A list of calls.
 pub type Calls = Items<Call>;
 
-impl Call {
-    ghost use Rattle.vs_script.specs.Calls.{call};
+/// A list of equal calls.
+pub fn copy_calls(alloc: Global, given: &Calls) -> Result<Calls, NoMemory>
+    ensures { IfOk result (λ copy. calls copy.items ≡ calls given.now.items) }
+{
+    let mut copy = Calls::new(alloc);
+    copy.reserve_many(given.len())?;
+    for call in given.as_slice() {
+        copy.push(call.try_clone()?);
+    }
+    Ok(copy)
+}
 
+fn mode(words: &mut Words) -> Result<Mode, ScriptKind>
+    ensures { Takes (λ x. x) result words.new (mode_at words.old) }
+{
+    let word = words.word()?;
+    match word {
+        b"ro" => Ok(Mode::Ro),
+        b"rw" => Ok(Mode::Rw),
+        _ => Err(ScriptKind::BadWord),
+    }
+}
+
+impl Call {
+    /// A call that equals this one.
     pub fn try_clone(&self) -> Result<Call, NoMemory>
         ensures { IfOk result (λ copy. call copy ≡ call self.now) }
     {
@@ -28,5 +59,16 @@ impl Call {
             bucket: self.bucket,
             ops,
         })
+    }
+
+    /// The call of a line, over this many buckets.
+    pub(crate) fn read(alloc: Global, line: &[u8], buckets: u32) -> Result<Call, LineFault>
+        ensures { MayGive call result (call_of buckets (words_in line.now)) }
+    {
+        let mut words = Words::of(line);
+        let mode = mode(&mut words)?;
+        let bucket = words.bucket(buckets)?;
+        let ops = ops(alloc, mode, &mut words)?;
+        Ok(Call { mode, bucket, ops })
     }
 }

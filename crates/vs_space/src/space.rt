@@ -126,7 +126,8 @@ impl Space {
 
     /// How many buckets have a status of this kind.
     pub fn count(&self, kind: StatusKind) -> u32
-        ensures { result ≡ count_of kind self.now.entries }
+        ensures number { result ≡ count_of kind self.now.entries }
+        ensures order { RisesFrom 1 self.now.entries }
     {
         self.counts.get(kind)
     }

@@ -12,7 +12,7 @@ use Rattle.vs_event.specs.declared.event.RestartBy.TheVariants.{Line, Service}
 use Rattle.vs_event.specs.declared.reason.Reason.TheVariants as reason
 use Rattle.vs_space.specs.declared.status.Status.{Status}
 use Rattle.vs_space.specs.declared.status.Status.TheVariants.{Active, Pinned, Sending, Receiving, Sent, Garbage}
-use Rattle.vs_link.specs.Connection.{closed}
+use Rattle.vs_link.specs.Connection.{unused, closed}
 use Rattle.vs_record.specs.Change.{Change, SetStatus, AddRows, Write, Wipe, Forget, bucket_of}
 use Rattle.vs_recover.specs.declared.decision.Decision.TheVariants.{ToActive, ToGarbage}
 use Rattle.vs_send.specs.declared.transfer.Phase.{Phase}
@@ -21,8 +21,8 @@ use Rattle.vs_send.specs.declared.transfer.Transfer.{Transfer}
 use Rattle.vs_machine.specs.declared.outcome.CommandFault.{CommandFault}
 use Rattle.vs_machine.specs.declared.outcome.CommandOutcome.TheVariants.{Done, WasDown, WasUp}
 use Rattle.vs_machine.specs.Tables.{put, least_to}
-use Rattle.vs_machine.specs.State.{State, Bucket, Ask, sets_of, answer, call_id, next_command, put_operator, put_rows, with_entry, with_transfer}
-use Rattle.vs_machine.specs.Coherence.{IsServing, dest_or}
+use Rattle.vs_machine.specs.State.{State, Bucket, Ask, sets_of, is_link, answer, call_id, next_command, put_operator, put_rows, with_entry, with_transfer}
+use Rattle.vs_machine.specs.Coherence.{handed_by, IsServing, dest_or}
 use Rattle.vs_machine.specs.Kinds.Calls.{act, bucket_after}
 use Rattle.vs_machine.specs.Kinds.Collection.{condemn, wipe, forget}
 use Rattle.vs_machine.specs.Kinds.Faults.{send_fault}
@@ -42,11 +42,12 @@ use Rattle.vs_machine.proofs.Can.Others.{can_condemn, can_wipe, can_forget, can_
 use Rattle.vs_machine.proofs.Can.Sender.{can_start, can_wait, can_freeze, can_chunk, can_seal, can_last, can_abort, can_end_move}
 use Rattle.vs_machine.proofs.Can.Stops.{can_stop, can_fault, can_restart, can_restart_line}
 use Rattle.vs_machine.proofs.Frame.{put_there}
+use Rattle.vs_machine.proofs.Linked.{AreLinked}
 use Rattle.vs_machine.proofs.Owners.{sending_owns}
 use Rattle.vs_machine.proofs.Possible.{ok_is, wants_none_ok}
 use Rattle.vs_machine.proofs.Kept.Collecting.{IsLeft, IsSpent}
 use Rattle.vs_machine.proofs.Kept.Pinning.{may_pin}
-use Rattle.vs_machine.proofs.Kept.Restarting.{owners_with, owners_kept, owners_restarted}
+use Rattle.vs_machine.proofs.Kept.Restarting.{owners_kept, owners_restarted}
 use Rattle.vs_machine.proofs.Kept.Sending.{may_send, may_haul}
 
 -- ---- act
@@ -201,35 +202,37 @@ plan_asks own s t o a e = by (least_to (λ x. not (s.up x)) (sets_of s)) (can_pl
 
 -- ---- stop and fault
 
-pub gone_down_asks : (own : ℕ → ℕ) (s : State) (x : ℕ) → UpFits s → AsksFit own s.bucket s.link → AsksFit own (gone_down s x).bucket (gone_down s x).link
-gone_down_asks own s x u a = record {
+pub gone_down_asks : (own : ℕ → ℕ) (s : State) (x : ℕ) → AreLinked s → UpFits s → AsksFit own s.bucket s.link → AsksFit own (gone_down s x).bucket (gone_down s x).link
+gone_down_asks own s x linked u a = record {
   asks = λ b. (keeps b).asks;
-  sought = λ b p v h q nm. let e = (keeps b).same p v h in opens p q ((p == x) || (q == x)) v b (a.sought b p v e.0 q nm);
-  answers = λ p q. line p q ((p == x) || (q == x));
+  sought = λ b p v h q nm. let e = (keeps b).same p v h in opens p q (is_link s p q) (linked.asks b p q nm) ((p == x) || (q == x)) v b (a.sought b p v e.0 q nm);
+  answers = λ p q. line p q (is_link s p q) ((p == x) || (q == x));
 }
   where
     keeps : (b : ℕ) → KeepsAsks s (own b) (own b) (s.bucket b) (without_work x (s.bucket b))
     keeps b = let old = s.bucket b in touched s (own b) (own b) old (without_work x old) x (a.asks b) (put_ends old x) (gone_calm (Both s x) (Both s x) Never (own b) old.entry old.transfer x)
 
-    opens : (p q : ℕ) (gone : Bool) (v : Ask) (b : ℕ) → IsOpen (s.link p q) v b → IsOpen (if gone then closed (s.link p q) else s.link p q) v b
-    opens p q true v b h = open_closed (s.link p q) v b h
-    opens p q false v b h = h
+    opens : (p q : ℕ) (there : Bool) → there ≡ true → (gone : Bool) (v : Ask) (b : ℕ) → IsOpen (s.link p q) v b → IsOpen (if there then (if gone then closed (s.link p q) else s.link p q) else unused) v b
+    opens p q true is true v b h = open_closed (s.link p q) v b h
+    opens p q true is false v b h = h
+    opens p q false is gone v b h = absurd cc
 
-    line : (p q : ℕ) (gone : Bool) → let l = if gone then closed (s.link p q) else s.link p q in All (HeardSays own l.epoch (λ b. without_work x (s.bucket b)) p q) l.replies
-    line p q true = All-nil _
-    line p q false = λ k d lt. let r = get_or (s.link p q).replies k d in (keeps r.bucket).answers (s.link p q).epoch p q r.sync r.reply (u.replies p q k d lt) (a.answers p q k d lt)
+    line : (p q : ℕ) (there gone : Bool) → let l = if there then (if gone then closed (s.link p q) else s.link p q) else unused in All (HeardSays own l.epoch (λ b. without_work x (s.bucket b)) p q) l.replies
+    line p q false gone = All-nil _
+    line p q true true = All-nil _
+    line p q true false = λ k d lt. let r = get_or (s.link p q).replies k d in (keeps r.bucket).answers (s.link p q).epoch p q r.sync r.reply (u.replies p q k d lt) (a.answers p q k d lt)
 
-pub stop_asks : (own : ℕ → ℕ) (s t : State) (o : ℕ) → UpFits s → AsksFit own s.bucket s.link → stop s o ≡ Ok t → AsksFit own t.bucket t.link
-stop_asks own s t o u a e =
+pub stop_asks : (own : ℕ → ℕ) (s t : State) (o : ℕ) → AreLinked s → UpFits s → AsksFit own s.bucket s.link → stop s o ≡ Ok t → AsksFit own t.bucket t.link
+stop_asks own s t o linked u a e =
     let p = can_stop s t o e in
     subst (λ (v : State). AsksFit own v.bucket v.link) p.gives (by p.x (s.up p.x))
   where
     by : (x : ℕ) (up : Bool) → let v = if up then put_operator (gone_down s x) o (answer (s.operator o) Done) else put_operator s o (answer (s.operator o) WasDown) in AsksFit own v.bucket v.link
-    by x true = gone_down_asks own s x u a
+    by x true = gone_down_asks own s x linked u a
     by x false = a
 
-pub fault_asks : (own : ℕ → ℕ) (s t : State) (x n : ℕ) (e : Recorded) → UpFits s → AsksFit own s.bucket s.link → fault s x n e ≡ Ok t → AsksFit own t.bucket t.link
-fault_asks own s t x n e u a h = let p = can_fault s t x n e h in subst (λ (v : State). AsksFit own v.bucket v.link) p.gives (gone_down_asks own s x u a)
+pub fault_asks : (own : ℕ → ℕ) (s t : State) (x n : ℕ) (e : Recorded) → AreLinked s → UpFits s → AsksFit own s.bucket s.link → fault s x n e ≡ Ok t → AsksFit own t.bucket t.link
+fault_asks own s t x n e linked u a h = let p = can_fault s t x n e h in subst (λ (v : State). AsksFit own v.bucket v.link) p.gives (gone_down_asks own s x linked u a)
 
 -- ---- restart
 
@@ -242,7 +245,7 @@ module _ (own : ℕ → ℕ) (s : State) (x : ℕ) (i : Inner own s) (u : UpFits
   not_both w up = absurd (cc (up.1, down))
 
   status_asks : (b : ℕ) (e : Option Status) (st : Status) → (s.bucket b).entry x ≡ e → StatusFits (sets_of s) (own b) (s.bucket b).entry (s.bucket b).transfer (s.bucket b).rows x e st
-      → AsksFit (owners_with own (SetStatus b st)) (put s.bucket b (with_status (s.bucket b) x st)) s.link
+      → AsksFit (handed_by own (Some (SetStatus b st))) (put s.bucket b (with_status (s.bucket b) x st)) s.link
   status_asks b (Some Active) Pinned at fits = serving_asks own s x b (Some Pinned) u a (subst IsServing (sym at) tt) tt
   status_asks b (Some Pinned) Active at fits = serving_asks own s x b (Some Active) u a (subst IsServing (sym at) tt) tt
   status_asks b (Some Active) (Sending d) at fits =
@@ -267,7 +270,7 @@ module _ (own : ℕ → ℕ) (s : State) (x : ℕ) (i : Inner own s) (u : UpFits
   status_asks b (Some (Sent d)) Garbage at fits = left_asks own s x b (Some Garbage) u a (subst IsLeft (sym at) tt) tt
   status_asks b e st at fits = absurd fits
 
-  pub changed_asks : (change : Change) → FitsIn (sets_of s) (own (bucket_of change)) (s.bucket (bucket_of change)) x change → AsksFit (owners_with own change) (put s.bucket (bucket_of change) (with_change (s.bucket (bucket_of change)) x change)) s.link
+  pub changed_asks : (change : Change) → FitsIn (sets_of s) (own (bucket_of change)) (s.bucket (bucket_of change)) x change → AsksFit (handed_by own (Some change)) (put s.bucket (bucket_of change) (with_change (s.bucket (bucket_of change)) x change)) s.link
   changed_asks (SetStatus b st) fits = status_asks b ((s.bucket b).entry x) st refl fits
   changed_asks (AddRows b z page) fits =
       let old = s.bucket b in

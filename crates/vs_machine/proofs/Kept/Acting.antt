@@ -50,10 +50,6 @@ module _ (n o : ℕ) (b : Bucket) (x : ℕ) (id : CallId) (ops : List Op) (f : B
   here : b.rows x ≡ rows_now b.history
   here = ap b.rows same ∙ f.owned
 
-  -- no transfer of the bucket copies while a write is let in
-  never : (z y : ℕ) (phase : Phase) → IsIn b.transfer z y phase → PhaseFits y (b.entry z) phase → b.entry z ≡ Some (Sending y) → ⊥
-  never z y phase h fits moving = serving_alone o b.entry x z y f.placed at moving
-
   copies : (z d : ℕ) (p : Phase) → PhaseFits d (b.entry z) p → CopyFits b.entry b.rows z d p → CopyFits written.entry written.rows z d p
   copies z d (Ready k) ph cp = absurd (serving_alone o b.entry x z d f.placed at ph)
   copies z d Copied ph cp = absurd (serving_alone o b.entry x z d f.placed at ph)

@@ -16,7 +16,7 @@ use Rattle.vs_recv.specs.declared.took.Took.{Took}
 use Rattle.vs_send.specs.declared.transfer.Phase.TheVariants.{Waiting, WaitingLast}
 use Rattle.vs_machine.specs.Tables.{put, put_at, is_to}
 use Rattle.vs_machine.specs.State.{State, Bucket, sets_of, has_set, is_locked, put_link}
-use Rattle.vs_machine.specs.Opening.{IsWithin}
+use Rattle.vs_script.specs.Lawful.{IsWithin}
 use Rattle.vs_machine.specs.Kinds.Sender.{last_key}
 use Rattle.vs_machine.specs.Kinds.Connections.{deliver, after_deliver, after_message, answered, received_at, receiving_at, status_at, with_page, with_last}
 use Rattle.vs_machine.specs.Whole.{Inner}

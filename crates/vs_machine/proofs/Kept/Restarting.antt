@@ -20,7 +20,7 @@ use Rattle.vs_send.specs.declared.transfer.Transfer.{Transfer}
 use Rattle.vs_machine.specs.declared.outcome.CommandOutcome.TheVariants.{Done, WasUp}
 use Rattle.vs_machine.specs.Tables.{put}
 use Rattle.vs_machine.specs.State.{State, Bucket, Ask, sets_of, has_bucket, is_set, holds, references, answer, put_bucket, put_operator, with_entry}
-use Rattle.vs_machine.specs.Coherence.{IsServing, names}
+use Rattle.vs_machine.specs.Coherence.{IsServing, names, handed_by}
 use Rattle.vs_machine.specs.Kinds.Connections.{with_last, decided}
 use Rattle.vs_machine.specs.Kinds.Stops.{restart, restarted, up_again, with_change}
 use Rattle.vs_machine.specs.Whole.{Inner, OperatorFits}
@@ -106,11 +106,6 @@ without_ask own s b x e none i =
     let old = s.bucket b in
     let same : put old.ask x None ≡ old.ask = ap (put old.ask x) (sym none) ∙ put_same old.ask x in
     subst (λ (g : ℕ → Option Ask). Inner own (put_bucket s b (record old { entry = put old.entry x e; ask = g }))) same i
-
--- who owns the buckets once the change took effect: what is sent has a new owner
-abbrev pub owners_with : (ℕ → ℕ) → Change → ℕ → ℕ
-owners_with own (SetStatus b (Sent d)) = put own b d
-owners_with own change = own
 
 abbrev pub changed : State → ℕ → Change → State
 changed s x change = put_bucket s (bucket_of change) (with_change (s.bucket (bucket_of change)) x change)
@@ -203,7 +198,7 @@ module _ (own : ℕ → ℕ) (s : State) (x : ℕ) (i : Inner own s) (u : UpFits
       }))
 
   status_keeps : (b : ℕ) (e : Option Status) (st : Status) → (s.bucket b).entry x ≡ e → StatusFits (sets_of s) (own b) (s.bucket b).entry (s.bucket b).transfer (s.bucket b).rows x e st
-      → Inner (owners_with own (SetStatus b st)) (changed s x (SetStatus b st))
+      → Inner (handed_by own (Some (SetStatus b st))) (changed s x (SetStatus b st))
   status_keeps b (Some Active) Pinned at fits = serving_keeps own s x b (Some Pinned) i (subst IsServing (sym at) tt) (no_transfer s x u down b) tt
   status_keeps b (Some Pinned) Active at fits = serving_keeps own s x b (Some Active) i (subst IsServing (sym at) tt) (no_transfer s x u down b) tt
   status_keeps b (Some Active) (Sending d) at fits = frozen b d at fits
@@ -248,7 +243,7 @@ module _ (own : ℕ → ℕ) (s : State) (x : ℕ) (i : Inner own s) (u : UpFits
           let same : q ≡ x = cc in
           absurd (cc (ap s.up same, up, down))
 
-  pub changed_by : (change : Change) → FitsIn (sets_of s) (own (bucket_of change)) (s.bucket (bucket_of change)) x change → Inner (owners_with own change) (changed s x change)
+  pub changed_by : (change : Change) → FitsIn (sets_of s) (own (bucket_of change)) (s.bucket (bucket_of change)) x change → Inner (handed_by own (Some change)) (changed s x change)
   changed_by (SetStatus b st) fits = status_keeps b ((s.bucket b).entry x) st refl fits
   changed_by (AddRows b z page) fits = added b z page fits
   changed_by (Write id b ops) fits =
@@ -262,8 +257,8 @@ module _ (own : ℕ → ℕ) (s : State) (x : ℕ) (i : Inner own s) (u : UpFits
 
 -- who owns the buckets once set x is up again
 abbrev pub owners_kept : (ℕ → ℕ) → Bool → Option Change → ℕ → ℕ
-owners_kept own true (Some change) = owners_with own change
-owners_kept own kept pending = own
+owners_kept own true pending = handed_by own pending
+owners_kept own false pending = own
 
 abbrev pub owners_restarted : (ℕ → ℕ) → State → ℕ → Bool → ℕ → ℕ
 owners_restarted own s x kept = if s.up x then own else owners_kept own kept (s.pending x)
@@ -275,7 +270,7 @@ pub restarted_keeps : (own : ℕ → ℕ) (s : State) (x : ℕ) (kept : Bool) (p
     → Inner (owners_kept own kept pending) (restarted s x kept pending)
 restarted_keeps own s x true (Some change) i u posted p down is =
     let after = changed s x change in
-    repend (owners_with own change) after (put s.up x true) (put s.pending x None) s.last_fault (changed_by own s x i u posted down change (p x change is).1)
+    repend (handed_by own (Some change)) after (put s.up x true) (put s.pending x None) s.last_fault (changed_by own s x i u posted down change (p x change is).1)
 restarted_keeps own s x true None i u posted p down is = again_keeps own s x i
 restarted_keeps own s x false (Some change) i u posted p down is = again_keeps own s x i
 restarted_keeps own s x false None i u posted p down is = again_keeps own s x i

@@ -23,7 +23,7 @@ use Rattle.vs_machine.specs.declared.outcome.CommandOutcome.{CommandOutcome}
 use Rattle.vs_machine.specs.declared.outcome.CommandOutcome.TheVariants as outcome
 use Rattle.vs_machine.specs.Tables.{or_else, is_to, least_to}
 use Rattle.vs_machine.specs.State.{State, Bucket, Operator, sets_of, next_command, put_bucket, with_transfer}
-use Rattle.vs_machine.specs.Opening.{IsLawfulCommand, IsWithin}
+use Rattle.vs_script.specs.Lawful.{IsLawfulCommand, IsWithin}
 use Rattle.vs_machine.specs.Kinds.Faults.{send_fault, fault_if, if_down, unless_active}
 use Rattle.vs_machine.specs.Kinds.Sender.{Move, move_of, in_phase, with_begun, start, after_start, not_yet, chunk, last, answered_by, moved_by, end_move, next_page, last_key}
 use Rattle.vs_machine.specs.Kinds.Rebalancing.{haul, after_haul, put_left, left_on, with_left, is_route, bucket_to_haul, is_free, is_active}

@@ -11,12 +11,12 @@ use Rattle.vs_space.specs.declared.reply.Reply.TheVariants as reply
 use Rattle.vs_calls.specs.declared.stage.Stage.{Stage}
 use Rattle.vs_calls.specs.declared.stage.Stage.TheVariants as stage
 use Rattle.vs_calls.specs.Progress.{is_at_set, is_idle, lost}
-use Rattle.vs_link.specs.Connection.{Message, Chunk, Last, Stat, bucket_of, closed}
+use Rattle.vs_link.specs.Connection.{Message, Chunk, Last, Stat, bucket_of, unused, closed}
 use Rattle.vs_record.specs.Change.{Change}
 use Rattle.vs_send.specs.declared.abort.AbortCause.TheVariants.{Stopped}
 use Rattle.vs_machine.specs.declared.outcome.CommandOutcome.TheVariants.{Done, WasDown, Aborted}
 use Rattle.vs_machine.specs.Tables.{put}
-use Rattle.vs_machine.specs.State.{State, Bucket, Client, Operator, sets_of, answer, is_set, next_command, with_progress, put_operator}
+use Rattle.vs_machine.specs.State.{State, Bucket, Client, Operator, sets_of, is_link, answer, is_set, next_command, with_progress, put_operator}
 use Rattle.vs_machine.specs.Kinds.Sender.{move_of}
 use Rattle.vs_machine.specs.Kinds.Stops.{lost_at, without_work, is_move_from, stopped_move, gone_down, stop, fault}
 use Rattle.vs_machine.specs.Whole.{Inner, OperatorFits}
@@ -95,7 +95,7 @@ gone_down_keeps own s x i = record {
   buckets = λ b. bucket_left (sets_of s) (own b) (s.bucket b) x (i.buckets b);
   clients = λ c. client_left s.bucket x (s.client c) (i.clients c);
   absent = λ c none. idle_left x (s.client c) (i.absent c none);
-  links = λ p q. link p q (p == x) refl (q == x) (i.links p q);
+  links = λ p q. link p q (is_link s p q) (p == x) refl (q == x) (i.links p q);
   real = i.real;
   operators = λ o. operator_left s.config.bucket_count (sets_of s) x (s.operator o) (i.operators o);
 }
@@ -103,10 +103,11 @@ gone_down_keeps own s x i = record {
     next : ℕ → Bucket
     next = λ b. without_work x (s.bucket b)
 
-    link : (p q : ℕ) (a : Bool) → (p == x) ≡ a → (d : Bool) → LinkFits s.bucket p q (s.link p q) → LinkFits next p q (if a || d then closed (s.link p q) else s.link p q)
-    link p q true ea d f = closed_fits next p q (s.link p q)
-    link p q false ea true f = closed_fits next p q (s.link p q)
-    link p q false ea false f =
+    link : (p q : ℕ) (there a : Bool) → (p == x) ≡ a → (d : Bool) → LinkFits s.bucket p q (s.link p q) → LinkFits next p q (if there then (if a || d then closed (s.link p q) else s.link p q) else unused)
+    link p q false a ea d f = record { calls = All-nil _; replies = All-nil _; distinct = tt; below = All-nil _ }
+    link p q true true ea d f = closed_fits next p q (s.link p q)
+    link p q true false ea true f = closed_fits next p q (s.link p q)
+    link p q true false ea false f =
         let ne : p ≢ x = eqb-false p x ea in
         record {
           calls = All-weaker _ _ (λ m. calls_stay (s.bucket (bucket_of m.message)) x p q ne (s.link p q).epoch m.sync m.message) (s.link p q).calls f.calls;

@@ -73,17 +73,18 @@ begin_calm s t c e = let p = can_begin s t c e in subst (Calm s) p.gives (one_cl
 pub end_calm : (s t : State) (c : ℕ) → «end» s c ≡ Ok t → Calm s t
 end_calm s t c e = let p = can_end s t c e in subst (Calm s) p.gives (one_client s c _ s.operator (ended_passes s (s.client c) p.acted))
 
+-- a call that is reached, and isn't answered, was posted
+pub reached_busy : (late here idle : Bool) → late ≡ false → (late || (here && not idle)) ≡ true → idle ≡ false
+reached_busy late here idle e h = grind (arith, e, h)
+
 pub cut_calm : (s t : State) (o : ℕ) → cut_call s o ≡ Ok t → Calm s t
 cut_calm s t o e = let p = can_cut s t o e in subst (Calm s) p.gives (by p.c p.n (is_answered (s.client p.c) p.n) refl p.reached)
   where
-    busy_by : (late here idle : Bool) → late ≡ false → (late || (here && not idle)) ≡ true → idle ≡ false
-    busy_by late here idle e h = grind (arith, e, h)
-
     by : (c n : ℕ) (late : Bool) → is_answered (s.client c) n ≡ late → is_reached (s.client c) n ≡ true
         → Calm s (let old = s.client c in if late then put_operator s o (answer (s.operator o) Late) else put_operator (put_client s c (with_progress old (cut old.present))) o (answer (s.operator o) Done))
     by c n true is reached = no_bucket s s.link _
     by c n false is reached =
-        let busy : is_idle (s.client c).present.stage ≡ false = busy_by (is_answered (s.client c) n) (n == length (s.client c).answered + 1) (is_idle (s.client c).present.stage) is reached in
+        let busy : is_idle (s.client c).present.stage ≡ false = reached_busy (is_answered (s.client c) n) (n == length (s.client c).answered + 1) (is_idle (s.client c).present.stage) is reached in
         one_client s c _ _ (cut_passes s (s.client c) busy)
 
 -- ---- transfers

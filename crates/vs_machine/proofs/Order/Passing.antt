@@ -76,13 +76,13 @@ acted_has stage.Running e = absurd (cc e)
 acted_has stage.Ended e = absurd (cc e)
 acted_has stage.Lost e = absurd (cc e)
 
-posted_busy : (st : Stage) → is_posted st ≡ true → is_idle st ≡ false
+pub posted_busy : (st : Stage) → is_posted st ≡ true → is_idle st ≡ false
 posted_busy st h = grind arith
 
-acted_busy : (st : Stage) → is_acted st ≡ true → is_idle st ≡ false
+pub acted_busy : (st : Stage) → is_acted st ≡ true → is_idle st ≡ false
 acted_busy st h = grind arith
 
-at_set_busy : (st : Stage) → is_at_set st ≡ true → is_idle st ≡ false
+pub at_set_busy : (st : Stage) → is_at_set st ≡ true → is_idle st ≡ false
 at_set_busy st h = grind arith
 
 -- ---- each step

@@ -11,7 +11,7 @@ use Rattle.vs_recover.specs.declared.decision.Decision.TheVariants.{ToActive, To
 use Rattle.vs_machine.specs.declared.outcome.CommandOutcome.TheVariants.{Done, WasUp}
 use Rattle.vs_machine.specs.Tables.{put}
 use Rattle.vs_machine.specs.State.{State, Bucket, sets_of, answer, put_operator, put_rows, with_entry}
-use Rattle.vs_machine.specs.Coherence.{IsServing}
+use Rattle.vs_machine.specs.Coherence.{handed_by, IsServing}
 use Rattle.vs_machine.specs.Kinds.Stops.{restart, restarted, with_status, with_change}
 use Rattle.vs_machine.specs.Whole.{Inner}
 use Rattle.vs_machine.specs.Inner.Down.{UpFits, StatusFits, RowsFit, FitsIn, PendingFits, PairsFit}
@@ -20,7 +20,7 @@ use Rattle.vs_machine.proofs.Can.Stops.{can_restart, can_restart_line}
 use Rattle.vs_machine.proofs.Frame.{put_others, put_split, put_there}
 use Rattle.vs_machine.proofs.Owners.{sending_owns}
 use Rattle.vs_machine.proofs.Kept.Collecting.{IsLeft, IsSpent}
-use Rattle.vs_machine.proofs.Kept.Restarting.{no_transfer, owners_with, owners_kept, owners_restarted}
+use Rattle.vs_machine.proofs.Kept.Restarting.{no_transfer, owners_kept, owners_restarted}
 use Rattle.vs_machine.proofs.Kept.Taking.{IsOpenTo}
 use Rattle.vs_machine.proofs.Pends.Fitting.{IsDown, IsPendingIn, Leaves, Knows, entry_left, rows_left, change_left}
 
@@ -148,7 +148,7 @@ module _ (own : ℕ → ℕ) (s : State) (i : Inner own s) (u : UpFits s) (p : P
       from_other b z y page (inr here) from mine theirs = let same : z ≡ y = cc (here, from) in pairs.handed y x b page theirs (mine ∙ ap (λ q. Some (AddRows b q page)) same)
 
   status_beside : (b y : ℕ) (e : Option Status) (st : Status) (change : Change) → (s.bucket b).entry x ≡ e → s.pending x ≡ Some (SetStatus b st) → (let old = s.bucket b in StatusFits (sets_of s) (own b) old.entry old.transfer old.rows x e st) → Beside b y change
-      → FitsIn (sets_of s) (owners_with own (SetStatus b st) b) (with_status (s.bucket b) x st) y change
+      → FitsIn (sets_of s) (handed_by own (Some (SetStatus b st)) b) (with_status (s.bucket b) x st) y change
   status_beside b y (Some Active) Pinned change at mine f k = serving_beside b y (Some Pinned) change (subst IsServing (sym at) tt) tt k
   status_beside b y (Some Pinned) Active change at mine f k = serving_beside b y (Some Active) change (subst IsServing (sym at) tt) tt k
   status_beside b y (Some Active) (Sending d) change at mine f k =
@@ -163,7 +163,7 @@ module _ (own : ℕ → ℕ) (s : State) (i : Inner own s) (u : UpFits s) (p : P
   status_beside b y e st change at mine f k = absurd f
 
   changed_beside : (w : Change) (y : ℕ) (change : Change) → s.pending x ≡ Some w → FitsIn (sets_of s) (own (bucket_of w)) (s.bucket (bucket_of w)) x w → Beside (bucket_of w) y change
-      → FitsIn (sets_of s) (owners_with own w (bucket_of w)) (with_change (s.bucket (bucket_of w)) x w) y change
+      → FitsIn (sets_of s) (handed_by own (Some w) (bucket_of w)) (with_change (s.bucket (bucket_of w)) x w) y change
   changed_beside (SetStatus b st) y change mine f k = status_beside b y ((s.bucket b).entry x) st change refl mine f k
   changed_beside (AddRows b z page) y change mine f k = page_beside b z y page change mine f k
   changed_beside (Write id b ops) y change mine f k =
@@ -172,7 +172,7 @@ module _ (own : ℕ → ℕ) (s : State) (i : Inner own s) (u : UpFits s) (p : P
   changed_beside (Wipe b n) y change mine f k = rows_beside b y (drop n ((s.bucket b).rows x)) change (λ w is. absurd (cc (f, is))) k
   changed_beside (Forget b) y change mine f k = left_beside b y None change (subst IsLeft (sym f.0) tt) tt k
 
-  same_after : (w : Change) (q : ℕ) → q ≢ bucket_of w → owners_with own w q ≡ own q
+  same_after : (w : Change) (q : ℕ) → q ≢ bucket_of w → handed_by own (Some w) q ≡ own q
   same_after (SetStatus b (Sent d)) q ne = put_there own b d q ne
   same_after (SetStatus b Active) q ne = refl
   same_after (SetStatus b Pinned) q ne = refl
@@ -198,9 +198,9 @@ module _ (own : ℕ → ℕ) (s : State) (i : Inner own s) (u : UpFits s) (p : P
   restarted_pends true (Some w) is =
       let new : Bucket = with_change (s.bucket (bucket_of w)) x w in
       let after : ℕ → Bucket = put s.bucket (bucket_of w) new in
-      again_pends (owners_with own w) after (λ y change ne theirs y_down.
+      again_pends (handed_by own (Some w)) after (λ y change ne theirs y_down.
       let f = p y change theirs in
-      put_others (λ q (v : Bucket). bucket_of change ≡ q → FitsIn (sets_of s) (own q) (s.bucket q) y change → FitsIn (sets_of s) (owners_with own w q) v y change) s.bucket (bucket_of w) new
+      put_others (λ q (v : Bucket). bucket_of change ≡ q → FitsIn (sets_of s) (own q) (s.bucket q) y change → FitsIn (sets_of s) (handed_by own (Some w) q) v y change) s.bucket (bucket_of w) new
       (λ same g. changed_beside w y change is (p x w is).1 (record { apart = ne; y_down = y_down; pending = theirs; bucket = same; fits = g }))
       (λ q other same g. subst (λ o. FitsIn (sets_of s) o (s.bucket q) y change) (sym (same_after w q other)) g) (bucket_of change) refl f.1)
   restarted_pends true None is = again_pends own s.bucket (λ y change ne theirs y_down. (p y change theirs).1)

@@ -5,13 +5,13 @@ use Rattle.vs_event.specs.declared.event.Recorded.{Recorded}
 use Rattle.vs_event.specs.declared.event.RestartBy.{RestartBy}
 use Rattle.vs_event.specs.declared.event.RestartBy.TheVariants.{Line, Service}
 use Rattle.vs_event.specs.declared.reason.Reason.TheVariants as reason
-use Rattle.vs_link.specs.Connection.{Connection, closed}
+use Rattle.vs_link.specs.Connection.{Connection, unused, closed}
 use Rattle.vs_record.specs.Change.{Change, bucket_of}
 use Rattle.vs_space.specs.declared.status.Status.TheVariants.{Garbage}
 use Rattle.vs_send.specs.declared.transfer.Phase.{Phase}
 use Rattle.vs_machine.specs.declared.outcome.CommandFault.{CommandFault}
 use Rattle.vs_machine.specs.declared.outcome.CommandOutcome.TheVariants.{Done, WasDown, WasUp}
-use Rattle.vs_machine.specs.State.{State, sets_of, answer, put_operator, with_entry, put_rows}
+use Rattle.vs_machine.specs.State.{State, sets_of, is_link, answer, put_operator, with_entry, put_rows}
 use Rattle.vs_machine.specs.Tables.{least_to}
 use Rattle.vs_machine.specs.Kinds.Collection.{condemn, wipe, forget}
 use Rattle.vs_machine.specs.Kinds.Pinning.{Pinning, pin, pinning_fault, after_pin}
@@ -19,6 +19,7 @@ use Rattle.vs_machine.specs.Kinds.Rebalancing.{plan, plan_round, is_in_move}
 use Rattle.vs_machine.specs.Kinds.Stops.{gone_down, stop, fault, restart, restarted, with_change}
 use Rattle.vs_machine.proofs.Frame.{put_split}
 use Rattle.vs_machine.proofs.Leaves.{changed_transfer}
+use Rattle.vs_machine.proofs.Linked.{AreLinked}
 use Rattle.vs_machine.proofs.Possible.{ok_is, wants_none_ok}
 use Rattle.vs_machine.proofs.Can.Others.{can_condemn, can_wipe, can_forget, can_pin, can_plan}
 use Rattle.vs_machine.proofs.Can.Stops.{can_stop, can_fault, can_restart, can_restart_line}
@@ -54,28 +55,29 @@ module _ (P : Connection → ℕ → Phase → Type 0) (k : Stable P) where
           subst (HoldsIn P) (ok_is _ t g.1) w
 
   -- the transfers of a set that goes down are gone, and its connections are closed
-  gone_down_waits : (s : State) (x : ℕ) → HoldsIn P s → HoldsIn P (gone_down s x)
-  gone_down_waits s x w b z t h = elim (put_split (s.bucket b).transfer x None z (Some t) h) [
+  gone_down_waits : (s : State) (x : ℕ) → AreLinked s → HoldsIn P s → HoldsIn P (gone_down s x)
+  gone_down_waits s x linked w b z t h = elim (put_split (s.bucket b).transfer x None z (Some t) h) [
     | inl e ↦ absurd (cc (e.1))
-    | inr e ↦ by (z == x) (t.dest == x) (w b z t e.1)
+    | inr e ↦ by (is_link s z t.dest) (linked.transfers b z t e.1) (z == x) (t.dest == x) (w b z t e.1)
   ]
     where
-      by : (a d : Bool) → P (s.link z t.dest) b t.phase → P (if a || d then closed (s.link z t.dest) else s.link z t.dest) b t.phase
-      by true d g = k.cut (s.link z t.dest) b t.phase g
-      by false true g = k.cut (s.link z t.dest) b t.phase g
-      by false false g = g
+      by : (there : Bool) → there ≡ true → (a d : Bool) → P (s.link z t.dest) b t.phase → P (if there then (if a || d then closed (s.link z t.dest) else s.link z t.dest) else unused) b t.phase
+      by true is true d g = k.cut (s.link z t.dest) b t.phase g
+      by true is false true g = k.cut (s.link z t.dest) b t.phase g
+      by true is false false g = g
+      by false is a d g = absurd cc
 
-  pub stop_waits : (s t : State) (o : ℕ) → HoldsIn P s → stop s o ≡ Ok t → HoldsIn P t
-  stop_waits s t o w e =
+  pub stop_waits : (s t : State) (o : ℕ) → AreLinked s → HoldsIn P s → stop s o ≡ Ok t → HoldsIn P t
+  stop_waits s t o linked w e =
       let p = can_stop s t o e in
       subst (HoldsIn P) p.gives (by p.x (s.up p.x))
     where
       by : (x : ℕ) (up : Bool) → HoldsIn P (if up then put_operator (gone_down s x) o (answer (s.operator o) Done) else put_operator s o (answer (s.operator o) WasDown))
-      by x true = gone_down_waits s x w
+      by x true = gone_down_waits s x linked w
       by x false = w
 
-  pub fault_waits : (s t : State) (x n : ℕ) (e : Recorded) → HoldsIn P s → fault s x n e ≡ Ok t → HoldsIn P t
-  fault_waits s t x n e w h = subst (HoldsIn P) (can_fault s t x n e h).gives (gone_down_waits s x w)
+  pub fault_waits : (s t : State) (x n : ℕ) (e : Recorded) → AreLinked s → HoldsIn P s → fault s x n e ≡ Ok t → HoldsIn P t
+  fault_waits s t x n e linked w h = subst (HoldsIn P) (can_fault s t x n e h).gives (gone_down_waits s x linked w)
 
   restarted_waits : (s : State) (x : ℕ) (kept : Bool) (pending : Option Change) → HoldsIn P s → HoldsIn P (restarted s x kept pending)
   restarted_waits s x true (Some change) w =

@@ -19,7 +19,7 @@ use Rattle.vs_script.specs.Calls.{Call}
 use Rattle.vs_script.specs.declared.command.Command.{Command}
 use Rattle.vs_script.specs.declared.command.Command.TheVariants as command
 use Rattle.vs_history.specs.History.{write_count}
-use Rattle.vs_link.specs.Connection.{Connection, Message, Chunk, Last, Stat, closed}
+use Rattle.vs_link.specs.Connection.{Connection, Message, Chunk, Last, Stat, unused, closed}
 use Rattle.vs_link.specs.declared.message.Heard.{Heard}
 use Rattle.vs_recv.specs.declared.took.Took.{Took}
 use Rattle.vs_recover.specs.declared.decision.Decision.{Decision}
@@ -30,7 +30,7 @@ use Rattle.vs_send.specs.declared.abort.AbortCause.TheVariants.{Stopped}
 use Rattle.vs_machine.specs.declared.outcome.CommandOutcome.TheVariants.{Done, WasDown, WasUp, Aborted}
 use Rattle.vs_machine.specs.Check.{◌>>=◌, ◌>>◌, needs, wants}
 use Rattle.vs_machine.specs.Tables.{put, count_to}
-use Rattle.vs_machine.specs.State.{State, Bucket, Client, Operator, has_set, has_bucket, has_client, has_operator, next_call, next_command, call_id, answer, is_set, put_operator, with_progress, with_entry, put_rows}
+use Rattle.vs_machine.specs.State.{State, Bucket, Client, Operator, has_set, has_bucket, has_client, has_operator, is_link, next_call, next_command, call_id, answer, is_set, put_operator, with_progress, with_entry, put_rows}
 use Rattle.vs_machine.specs.Kinds.Calls.{act, bucket_after}
 use Rattle.vs_machine.specs.Kinds.Sender.{freeze, seal, move_of, Move}
 use Rattle.vs_machine.specs.Kinds.Connections.{deliver, hear, first_call, first_reply, received_at, counts_at, decision_by, with_page}
@@ -66,7 +66,7 @@ gone_down s x = record s {
   client = λ c. lost_at x (s.client c);
   operator = λ o. stopped_move x (s.operator o);
   bucket = λ b. without_work x (s.bucket b);
-  link = λ p q. closed_at x p q (s.link p q);
+  link = λ p q. if is_link s p q then closed_at x p q (s.link p q) else unused;
 }
 
 -- ---- stop

@@ -1,0 +1,10 @@
+pub mod Names
+pub mod Loops
+pub mod Taken
+pub mod Parts
+pub mod Lists
+pub mod Changes
+pub mod Found
+pub mod Tables
+pub mod States
+pub mod Fitting

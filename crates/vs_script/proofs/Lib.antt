@@ -1,0 +1,11 @@
+mod Entries
+mod Gathered
+mod LawfulLines
+mod LawfulOps
+mod LawfulScripts
+mod Names
+mod Numbers
+mod OpLists
+mod Ranges
+mod Steps
+mod Texts

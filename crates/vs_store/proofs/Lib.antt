@@ -1,0 +1,3 @@
+pub mod Folding
+pub mod Opening
+pub mod Standings

@@ -1,0 +1,13 @@
+pub use Rattle.vs_disk.specs.Model
+pub use Rattle.vs_disk.specs.Told
+pub use Rattle.vs_frame.specs.Frame
+pub use Rattle.vs_frame.specs.Head
+pub use Rattle.vs_frame.specs.Reading
+pub use Rattle.vs_frame.specs.Unwritten
+pub use Rattle.vs_record.specs.Body
+pub use Rattle.vs_record.specs.Change
+pub use Rattle.vs_record.specs.Durable
+pub use Rattle.vs_record.specs.States
+pub mod Faults
+pub mod Standing
+pub mod Store
