@@ -65,6 +65,12 @@ impl Connection {
         self.epoch
     }
 
+    pub fn next(&self) -> u64
+        ensures { result ≡ self.now.connection.next }
+    {
+        self.next
+    }
+
     pub fn head_call(&self) -> Option<&Posted>
         ensures { option_map sent (option_copied result) ≡ first self.now.connection.calls }
     {

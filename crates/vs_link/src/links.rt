@@ -81,6 +81,14 @@ impl Links {
         self.connections[place(x, y)].epoch()
     }
 
+    /// The number of the next message.
+    pub fn next(&self, x: SetNo, y: SetNo) -> u64
+        requires { IsPair self.now x y }
+        ensures { result ≡ (connection_of self.now x y).next }
+    {
+        self.connections[place(x, y)].next()
+    }
+
     /// The message that stands first.
     pub fn head_call(&self, x: SetNo, y: SetNo) -> Option<&Posted>
         requires { IsPair self.now x y }

@@ -62,6 +62,13 @@ impl Rows {
         self.rows.is_empty()
     }
 
+    /// The rows, rising by key.
+    pub fn as_slice(&self) -> &[(Key, Val)]
+        ensures { result.now ≡ self.now.items }
+    {
+        self.rows.as_slice()
+    }
+
     /// Whether there are rows above a key, or any rows where none is given.
     pub fn more(&self, after: Option<&Key>) -> bool
         ensures { IsTrue result

@@ -1,14 +1,5 @@
-pub mod Numbers
-pub mod FirstLine
-pub mod EventLines
-pub mod ScriptLines
-pub mod Acting
-pub mod Lists
-pub mod Histories
-pub mod Standing
-pub mod Legality
-pub mod Runs
 pub mod Causes
-pub mod Logging
-pub mod Playing
 pub mod Ending
+pub mod Playing
+pub mod Runs
+pub mod Possible

@@ -1,37 +1,22 @@
 //! Why files are not played.
 
-use crate::event_text::EventFault;
-use crate::input::Input;
 use crate::play::PlayFault;
-use crate::reason::Reason;
-use crate::script::ScriptFault;
 use vs_base::NoMemory;
+use vs_event::Reason;
 use vs_host::HostFailed;
+use vs_inputs::{InputFault, TextFault};
 
-/// Which text is outside its form.
-#[derive(Clone, Copy, Debug, PartialEq, Eq)]
-pub enum TextFault {
-    /// The file is longer than a text may be.
-    TooLong(Input),
-    /// The configuration is another than the one that is taken.
-    OtherConfig,
-    /// The script isn't of the form that is taken.
-    OtherScript,
-    /// The line of this number, counted from 1, of the events is no event.
-    BadEvent(usize),
-}
-
-/// Why files are not played.
+/// Why files are not played. An input is named by the place of its file among the words after the command, from 1.
 #[derive(Clone, Copy, Debug, PartialEq, Eq)]
 pub enum Fault {
     /// The words are no command.
     Words,
-    /// A text is outside its form.
-    Text(TextFault),
+    /// This is wrong with the text of the input.
+    Text(u64, TextFault),
     /// The event of this number, counted from 1, is impossible after those before it.
-    Event(usize, Reason),
-    /// Reading a file failed.
-    Read(Input),
+    Event(u64, Reason),
+    /// Reading the file of the input failed.
+    Read(u64),
     /// Putting the report out failed.
     Write,
     /// Memory was refused.
@@ -48,7 +33,7 @@ impl Fault {
     {
         match self {
             Fault::Words => 2,
-            Fault::Text(_) => 3,
+            Fault::Text(_, _) => 3,
             Fault::Event(_, _) => 4,
             Fault::Read(_) => 5,
             Fault::Write => 6,
@@ -57,30 +42,17 @@ impl Fault {
     }
 }
 
-impl From<EventFault> for Fault {
+impl From<InputFault> for Fault {
     ghost use Rattle.std.specs.Prelude.{◌≡◌};
-    ghost use Rattle.vs_top.specs.Faults.{from_events};
+    ghost use Rattle.vs_top.specs.Faults.{from_inputs};
 
-    ghost from_gives = { λ e fault. fault ≡ from_events e };
+    ghost from_gives = { λ e fault. fault ≡ from_inputs e };
 
-    fn from(e: EventFault) -> Self {
+    fn from(e: InputFault) -> Self {
         match e {
-            EventFault::BadEvent(line) => Fault::Text(TextFault::BadEvent(line)),
-            EventFault::NoMemory => Fault::NoMemory,
-        }
-    }
-}
-
-impl From<ScriptFault> for Fault {
-    ghost use Rattle.std.specs.Prelude.{◌≡◌};
-    ghost use Rattle.vs_top.specs.Faults.{from_script};
-
-    ghost from_gives = { λ e fault. fault ≡ from_script e };
-
-    fn from(e: ScriptFault) -> Self {
-        match e {
-            ScriptFault::NotBuilt => Fault::Text(TextFault::OtherScript),
-            ScriptFault::NoMemory => Fault::NoMemory,
+            InputFault::Text(input, fault) => Fault::Text(input, fault),
+            InputFault::Read(input) => Fault::Read(input),
+            InputFault::NoMemory => Fault::NoMemory,
         }
     }
 }

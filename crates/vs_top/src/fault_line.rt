@@ -1,85 +1,97 @@
 //! The line that is logged with a fault.
 
-ghost use Rattle.std.specs.Prelude.{◌≡◌, ◌++◌};
-ghost use Rattle.std.specs.Fmt.{decimal};
-ghost use Rattle.vs_host.specs.Calls.{Logs};
-ghost use Rattle.vs_top.specs.Statuses.{reason_end, text_line, fault_line};
+ghost use Rattle.std.specs.Prelude.{◌≡◌, ◌⊎◌, IfOk};
+ghost use Rattle.vs_inputs.specs.FaultLine as inputs;
+ghost use Rattle.vs_top.specs.Logged.{IsTold, IsToldOr};
+ghost use Rattle.vs_top.specs.Statuses.{fault_line};
 
-use crate::fault::{Fault, TextFault};
-use crate::input::Input;
-use crate::reason::Reason;
-use itoa::Buffer;
-use vs_host::{Host, HostFailed};
+use crate::fault::Fault;
+use std::alloc::Global;
+use vs_base::NoMemory;
+use vs_event::Reason;
+use vs_host::Host;
+use vs_inputs::{InputFault, fault_buffer, put_fault};
+use vs_report::put_reason;
+use vs_text::put_number;
 
-/// Logs a text with a number in it. It takes no memory.
-fn log_numbered<H: Host>(
-    host: &mut H,
-    first: &[u8],
-    number: u64,
-    last: &[u8],
-) -> Result<(), HostFailed>
-    ensures { Logs (first.now ++ decimal number ++ last.now)
-        (H.told host.old) (H.told host.new) result }
+const USAGE: &[u8] =
+    b"vshard: usage: run CONFIG FILE... | play CONFIG EVENTS FILE... | gen NUMBER\n";
+
+const WRITE: &[u8] = b"vshard: write\n";
+
+const MEMORY: &[u8] = b"vshard: memory\n";
+
+/// The line of an event that is impossible.
+fn event_line(alloc: Global, number: u64, reason: &Reason) -> Result<Vec<u8>, NoMemory>
+    ensures { IfOk result (λ line. line.items ≡ fault_line (Fault.Event number reason.now)) }
 {
-    host.log(first)?;
-    let mut buffer = Buffer::new();
-    host.log(buffer.format(number).as_bytes())?;
-    host.log(last)
+    let mut line = Vec::new(alloc);
+    line.extend_from_slice(b"vshard: event ")?;
+    put_number(&mut line, number)?;
+    line.extend_from_slice(b": ")?;
+    put_reason(&mut line, reason)?;
+    line.push(b'\n')?;
+    Ok(line)
 }
 
-fn reason_end(reason: Reason) -> &'static [u8]
-    ensures { result.now ≡ reason_end reason }
+/// The line of a fault of an input.
+fn input_line(alloc: Global, fault: InputFault) -> Result<Vec<u8>, NoMemory>
+    ensures { IfOk result (λ line. line.items ≡ inputs.fault_line fault) }
 {
-    match reason {
-        Reason::Unknown => b": Unknown\n",
-        Reason::NoCommand => b": NoCommand\n",
-        Reason::Stage => b": Stage\n",
+    let mut line = Vec::new(alloc);
+    let mut buffer = fault_buffer(alloc)?;
+    put_fault(&mut buffer, fault);
+    line.extend_from_slice(buffer.as_slice())?;
+    Ok(line)
+}
+
+/// Logs the line of a fault that takes no memory, and answers its status.
+fn log_short<H: Host>(host: &mut H, fault: &Fault, line: &[u8]) -> u8
+    requires { line.now ≡ fault_line fault.now }
+    ensures { IsTold fault.now result (H.told host.old) (H.told host.new) }
+{
+    let _ = host.log(line);
+    fault.status()
+}
+
+/// Logs the line of a fault, or that there is no memory for it, and answers the status.
+fn log_long<H: Host>(host: &mut H, fault: &Fault, line: Result<Vec<u8>, NoMemory>) -> u8
+    requires { IfOk line (λ line. line.items ≡ fault_line fault.now) }
+    ensures { IsTold fault.now result (H.told host.old) (H.told host.new)
+        ⊎ IsTold Fault.NoMemory result (H.told host.old) (H.told host.new) }
+{
+    match line {
+        Ok(line) => log_short(host, fault, &line),
+        Err(NoMemory) => log_short(host, &Fault::NoMemory, MEMORY),
     }
 }
 
-fn log_text_fault<H: Host>(host: &mut H, fault: TextFault) -> Result<(), HostFailed>
-    ensures { Logs (text_line fault) (H.told host.old) (H.told host.new) result }
+/// Logs the line of a fault, and answers the status. Where there is no memory for the line, that is told in its place.
+pub fn log_fault<H: Host>(alloc: Global, host: &mut H, fault: &Fault) -> u8
+    ensures { IsToldOr fault.now result (H.told host.old) (H.told host.new) }
 {
     match fault {
-        TextFault::TooLong(input) => {
-            log_numbered(host, b"vshard: input ", input.place(), b": TooLong\n")
+        Fault::Words => log_short(host, fault, USAGE),
+        Fault::Text(input, text) => {
+            let line = input_line(alloc, InputFault::Text(*input, *text));
+            log_long(host, fault, line)
         }
-        TextFault::OtherConfig => {
-            log_numbered(
-                host,
-                b"vshard: input ",
-                Input::Config.place(),
-                b": NotBuilt\n",
-            )
-        }
-        TextFault::OtherScript => {
-            log_numbered(
-                host,
-                b"vshard: input ",
-                Input::Script.place(),
-                b": NotBuilt\n",
-            )
-        }
-        TextFault::BadEvent(line) => {
-            log_numbered(host, b"vshard: input 2 line ", line as u64, b": BadEvent\n")
-        }
-    }
-}
-
-/// Logs the line of a fault. It takes no memory.
-pub fn log_fault<H: Host>(host: &mut H, fault: Fault) -> Result<(), HostFailed>
-    ensures { Logs (fault_line fault) (H.told host.old) (H.told host.new) result }
-{
-    match fault {
-        Fault::Words => host.log(
-            b"vshard: usage: run CONFIG FILE... | play CONFIG EVENTS FILE... | gen NUMBER\n",
-        ),
-        Fault::Text(fault) => log_text_fault(host, fault),
         Fault::Event(number, reason) => {
-            log_numbered(host, b"vshard: event ", number as u64, reason_end(reason))
+            let line = event_line(alloc, *number, reason);
+            log_long(host, fault, line)
         }
-        Fault::Read(input) => log_numbered(host, b"vshard: read input ", input.place(), b"\n"),
-        Fault::Write => host.log(b"vshard: write\n"),
-        Fault::NoMemory => host.log(b"vshard: memory\n"),
+        Fault::Read(input) => {
+            let line = input_line(alloc, InputFault::Read(*input));
+            log_long(host, fault, line)
+        }
+        Fault::Write => log_short(host, fault, WRITE),
+        Fault::NoMemory => log_short(host, fault, MEMORY),
     }
+}
+
+/// Logs the line of words that are no command, and answers the status.
+pub fn log_usage<H: Host>(host: &mut H) -> u8
+    ensures { IsTold Fault.Words result (H.told host.old) (H.told host.new) }
+{
+    log_short(host, &Fault::Words, USAGE)
 }

@@ -1,27 +1,29 @@
 //! Events are played.
 
 ghost use Rattle.std.specs.Prelude.{◌≡◌, IfOk, IfErr, Ok};
-ghost use Rattle.vs_top.specs.Call.{AreLawfulCalls, calls_of};
-ghost use Rattle.vs_top.specs.State.{opening};
-ghost use Rattle.vs_top.specs.Step.{run};
-ghost use Rattle.vs_top.specs.Legal.{IsLegalState};
-ghost use Rattle.vs_top.specs.Means.{means};
-ghost use Rattle.vs_top.specs.PlayFault.{IsCauseOf};
+ghost use Rattle.vs_config.specs.Configuration.{configuration};
+ghost use Rattle.vs_machine.specs.Opening.{IsLawful};
+ghost use Rattle.vs_machine.specs.Report as machine_report;
+ghost use Rattle.vs_machine.specs.Step.{run};
+ghost use Rattle.vs_script.specs.Scripts as script;
+ghost use Rattle.vs_world.specs.Played.{IsRun, began, state_of};
+ghost use Rattle.vs_top.specs.Plays.{IsPlayCause, IsReportOf, fault_at, start};
 
-use crate::call::Calls;
-use crate::config::Config;
-use crate::event::Trace;
-use crate::machine::StepFault;
-use crate::reason::Reason;
-use crate::state::State;
 use std::alloc::Global;
 use vs_base::NoMemory;
+use vs_config::Config;
+use vs_core::safe_runs;
+use vs_event::{Reason, Trace};
+use vs_machine::every_event;
+use vs_report::report;
+use vs_script::Scripts;
+use vs_world::{StepFault, World};
 
 /// Why events were not all played.
 #[derive(Clone, Copy, Debug, PartialEq, Eq)]
 pub enum PlayFault {
     /// The event of this number, counted from 1, is impossible after those before it.
-    Event(usize, Reason),
+    Event(u64, Reason),
     /// Memory was refused.
     NoMemory,
 }
@@ -37,22 +39,59 @@ impl From<NoMemory> for PlayFault {
     }
 }
 
-/// The cluster of this configuration and these calls after these events.
-pub fn play(alloc: Global, config: Config, calls: Calls, trace: &Trace) -> Result<State, PlayFault>
-    requires { AreLawfulCalls config.bucket_count (calls_of calls.items) }
-    ensures ran { IfOk result (λ s.
-        run (opening config (calls_of calls.items)) trace.now.items ≡ Ok (means s)) }
-    ensures legal { IfOk result (λ s. IsLegalState (calls_of calls.items) (means s)) }
-    ensures impossible { IfErr result (λ fault.
-        IsCauseOf fault config (calls_of calls.items) trace.now.items) }
+/// Why the event of this number isn't carried out.
+fn fault_at(number: u64, fault: StepFault) -> PlayFault
+    ensures { result ≡ fault_at number fault }
 {
-    let mut state = State::new(alloc, config, calls)?;
+    match fault {
+        StepFault::NotNow(reason) => PlayFault::Event(number, reason),
+        StepFault::NoMemory => PlayFault::NoMemory,
+    }
+}
+
+/// A new cluster of this configuration and these scripts, after these events.
+fn play(alloc: Global, config: Config, scripts: Scripts, trace: &Trace) -> Result<World, PlayFault>
+    requires { IsLawful (configuration config) (script.scripts scripts) }
+    ensures start { IfOk result (λ world.
+        began world ≡ start (configuration config) (script.scripts scripts)) }
+    ensures ran { IfOk result (λ world. run (began world) trace.now.items ≡ Ok (state_of world)) }
+    ensures err { IfErr result (λ fault.
+        IsPlayCause fault (configuration config) (script.scripts scripts) trace.now.items) }
+{
+    let mut world = World::open(alloc, config, scripts)?;
     for (i, event) in trace.as_slice().iter().enumerate() {
-        match state.step(event) {
+        match world.step(*event) {
             Ok(()) => {}
-            Err(StepFault::NotNow(reason)) => return Err(PlayFault::Event(i + 1, reason)),
-            Err(StepFault::NoMemory) => return Err(PlayFault::NoMemory),
+            Err(fault) => return Err(fault_at(i as u64 + 1, fault)),
         }
     }
-    Ok(state)
+    Ok(world)
+}
+
+/// The report of a cluster.
+pub(crate) fn report_of(alloc: Global, world: &World) -> Result<Vec<u8>, NoMemory>
+    ensures text { IfOk result (λ text. text.items ≡ machine_report.report (state_of world.now)) }
+    ensures run { IsRun world.now }
+{
+    every_event();
+    report(alloc, world.core().state())
+}
+
+/// The report of a new cluster of this configuration and these scripts, after these events.
+pub fn played_report(
+    alloc: Global,
+    config: Config,
+    scripts: Scripts,
+    trace: &Trace,
+) -> Result<Vec<u8>, PlayFault>
+    requires { IsLawful (configuration config) (script.scripts scripts) }
+    ensures ok { IfOk result (λ text.
+        IsReportOf (configuration config) (script.scripts scripts) trace.now.items text.items) }
+    ensures err { IfErr result (λ fault.
+        IsPlayCause fault (configuration config) (script.scripts scripts) trace.now.items) }
+{
+    safe_runs();
+    let world = play(alloc, config, scripts, trace)?;
+    let text = report_of(alloc, &world)?;
+    Ok(text)
 }

@@ -1,157 +1,105 @@
+//! Commands from files to reports, by example.
+
+mod long;
+mod reasons;
+mod rows;
+mod statuses;
+
 use crate::play_main;
 use std::alloc::{AllocError, Global};
-use std::test::Fail;
-use vs_host::{Host, HostFailed, HostRead, MemHost, NamedFile};
+use vs_host::{MemHost, NamedFile};
 
-const CONFIG: &str =
+/// A cluster of one set with four buckets.
+const ONE_SET: &str =
     "bucket_count = 4\n[[set]]\nuuid = \"00000000-0000-4000-8000-000000000001\"\nweight = 3\n";
 
-const SCRIPT: &str = "client\nrw 3 put a 1\nro 3 get a\n";
+/// A cluster of two sets, of which the first has buckets 1 to 3, and the second bucket 4.
+const TWO_SETS: &str =
+    "bucket_count = 4\n[[set]]\nuuid = \"00000000-0000-4000-8000-000000000001\"\nweight = 3\n[[set]]\nuuid = \"00000000-0000-4000-8000-000000000002\"\nweight = 1\n";
 
-const USAGE: &str = "vshard: usage: run CONFIG FILE... | play CONFIG EVENTS FILE... | gen NUMBER\n";
+/// How bucket 3 is moved from set 1 to set 2 by the first operator, where it has at most 1,000 rows.
+const MOVE: &str =
+    "start 1\nfreeze 1 3\nchunk 1 3\ndeliver 1 2\nhear 1 2\nseal 1 3\nlast 1 3\ndeliver 1 2\nhear 1 2\nendmove 1 3\n";
 
-fn file(alloc: Global, name: &str, text: &str) -> Result<NamedFile, AllocError> {
-    Ok(NamedFile {
-        name: String::from_str(alloc, name)?,
-        bytes: Vec::from_slice(alloc, text.as_bytes())?,
-    })
+/// A text that is written so many times.
+type Part = (usize, &'static str);
+
+/// The parts, one after the other.
+fn joined(alloc: Global, parts: &[Part]) -> Result<Vec<u8>, AllocError> {
+    let mut text = Vec::new(alloc);
+    for (times, part) in parts {
+        for _ in 0..*times {
+            text.extend_from_slice(part.as_bytes())?;
+        }
+    }
+    Ok(text)
 }
 
-/// The call of this number, counted from 1, fails.
-fn host(alloc: Global, events: &str, failing: u64) -> Result<MemHost, AllocError> {
+/// The words of a command over these texts, and a host that has them. The call of the host with this number, counted from 1,
+/// fails.
+fn command(
+    alloc: Global,
+    config: &str,
+    events: Vec<u8>,
+    scripts: &[Vec<u8>],
+    failing: u64,
+) -> Result<(Vec<String>, MemHost), AllocError> {
+    let mut words = Vec::new(alloc);
+    words.push(String::from_str(alloc, "play")?)?;
+    words.push(String::from_str(alloc, "config")?)?;
+    words.push(String::from_str(alloc, "events")?)?;
     let mut files = Vec::new(alloc);
-    files.push(file(alloc, "c", CONFIG)?)?;
-    files.push(file(alloc, "e", events)?)?;
-    files.push(file(alloc, "s", SCRIPT)?)?;
+    files.push(NamedFile {
+        name: String::from_str(alloc, "config")?,
+        bytes: Vec::from_slice(alloc, config.as_bytes())?,
+    })?;
+    files.push(NamedFile {
+        name: String::from_str(alloc, "events")?,
+        bytes: events,
+    })?;
+    let mut name = String::from_str(alloc, "s")?;
+    for script in scripts {
+        name.push('s')?;
+        words.push(String::from_str(alloc, name.as_str())?)?;
+        files.push(NamedFile {
+            name: String::from_str(alloc, name.as_str())?,
+            bytes: Vec::from_slice(alloc, script)?,
+        })?;
+    }
     let mut calls = Vec::new(alloc);
     calls.push(failing)?;
-    Ok(MemHost::new(alloc, files, calls))
+    Ok((words, MemHost::new(alloc, files, calls)))
 }
 
-fn words(alloc: Global, words: &[&str]) -> Result<Vec<String>, AllocError> {
-    let mut copied = Vec::new(alloc);
-    for word in words {
-        copied.push(String::from_str(alloc, word)?)?;
+/// Plays the events on the cluster of this configuration, over these scripts.
+fn played(
+    alloc: Global,
+    config: &str,
+    events: Vec<u8>,
+    scripts: &[Vec<u8>],
+    failing: u64,
+) -> Result<(u8, MemHost), AllocError> {
+    let (words, mut host) = command(alloc, config, events, scripts, failing)?;
+    let status = play_main(&words, &mut host);
+    Ok((status, host))
+}
+
+/// Copies texts.
+fn copied(alloc: Global, texts: &[&str]) -> Result<Vec<Vec<u8>>, AllocError> {
+    let mut copies = Vec::new(alloc);
+    for text in texts {
+        copies.push(Vec::from_slice(alloc, text.as_bytes())?)?;
     }
-    Ok(copied)
+    Ok(copies)
 }
 
-// The events, the call of the host that fails, the status, and what is logged.
-#[test]
-fn statuses(rt: HostRuntime) -> Result<(), Fail> {
-    let alloc = rt.alloc();
-    let table = [
-        ("", 0, 0, ""),
-        ("act 1\n", 0, 4, "vshard: event 1: Stage\n"),
-        ("act 01\n", 0, 3, "vshard: input 2 line 1: BadEvent\n"),
-        (
-            "post 1 1\nact 1",
-            0,
-            3,
-            "vshard: input 2 line 2: BadEvent\n",
-        ),
-        ("post 1 2\n", 0, 4, "vshard: event 1: Unknown\n"),
-        ("", 1, 5, "vshard: read input 1\n"),
-        ("", 3, 5, "vshard: read input 3\n"),
-        ("", 4, 6, "vshard: write\n"),
-    ];
-    for (events, failing, status, line) in table {
-        let mut host = host(alloc, events, failing)?;
-        let words = words(alloc, &["play", "c", "e", "s"])?;
-        let answer = play_main(&words, &mut host);
-        assert_eq!(rt; answer, status, "at {events}");
-        assert_eq!(rt; host.logged(), line.as_bytes(), "at {events}");
-    }
-    Ok(())
+/// Whether each line stands in the text.
+fn have_lines(text: &[u8], lines: &[&str]) -> bool {
+    lines.iter().all(|line| has_line(text, line))
 }
 
-#[test]
-fn report(rt: HostRuntime) -> Result<(), Fail> {
-    let alloc = rt.alloc();
-    let mut host = host(alloc, "post 1 1\nbegin 1\nact 1\n", 0)?;
-    let words = words(alloc, &["play", "c", "e", "s"])?;
-    assert_eq!(rt; play_main(&words, &mut host), 0);
-    let report =
-        "cluster 1 4\nset 1 up 4 0 0 0 0 0\nbucket 1 1 active\nbucket 2 1 active\nbucket 3 1 active\nbucket 4 1 active\nhistory 3 0 1 0\nwrite 1 1 1 put a 1 => done\ncall 1 1 open\nend\n";
-    assert_eq!(rt; host.put_out(), report.as_bytes());
-    Ok(())
-}
-
-#[test]
-fn words_that_are_no_command(rt: HostRuntime) -> Result<(), Fail> {
-    let alloc = rt.alloc();
-    let table: [&[&str]; 5] = [
-        &[],
-        &["run"],
-        &["play", "c", "e"],
-        &["play", "c", "", "s"],
-        &["play", "c", "e", "-s"],
-    ];
-    for line in table {
-        let mut host = host(alloc, "", 0)?;
-        let words = words(alloc, line)?;
-        assert_eq!(rt; play_main(&words, &mut host), 2);
-        assert_eq!(rt; host.logged(), USAGE.as_bytes());
-    }
-    Ok(())
-}
-
-/// A host each of whose files is longer than any limit, and which keeps what is logged.
-#[derive(Drop)]
-struct LongFiles {
-    log: Vec<u8>,
-    taken: u64,
-}
-
-impl Host for LongFiles {
-    ghost use Rattle.std.specs.Prelude.{true, None, ◌^◌};
-
-    ghost told = { λ h.
-        record {
-          file = λ _. None;
-          may_read = λ _. true;
-          out = None;
-          log = None;
-          taken = h.taken;
-          read_faults = 2 ^ 63;
-          write_faults = 2 ^ 63;
-        } };
-
-    fn read(&mut self, _name: &str, limit: u64) -> Result<Vec<u8>, HostRead> {
-        match limit.checked_add(1) {
-            Some(taken) => {
-                self.taken = taken;
-                Err(HostRead::TooLong)
-            }
-            None => Err(HostRead::Failed),
-        }
-    }
-
-    fn out(&mut self, _bytes: &[u8]) -> Result<(), HostFailed> {
-        Err(HostFailed)
-    }
-
-    fn log(&mut self, bytes: &[u8]) -> Result<(), HostFailed> {
-        match self.log.extend_from_slice(bytes) {
-            Ok(()) => Ok(()),
-            Err(_) => Err(HostFailed),
-        }
-    }
-}
-
-#[test]
-fn long_file(rt: HostRuntime) -> Result<(), Fail> {
-    let alloc = rt.alloc();
-    let words = words(alloc, &["play", "c", "e", "s"])?;
-    let mut host = LongFiles {
-        log: Vec::new(alloc),
-        taken: 0,
-    };
-    assert_eq!(rt; play_main(&words, &mut host), 3);
-    assert_eq!(rt;
-        host.log.as_slice(),
-        b"vshard: input 1: TooLong\n".as_slice()
-    );
-    assert_eq!(rt; host.taken, (1 << 28) + 1);
-    Ok(())
+/// Whether the line stands in the text.
+fn has_line(text: &[u8], line: &str) -> bool {
+    text.split(|byte| *byte == b'\n')
+        .any(|found| found == line.as_bytes())
 }

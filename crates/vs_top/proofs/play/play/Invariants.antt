@@ -1,9 +1,8 @@
-use Rattle.std.proofs.Common.{◌≡◌, take, Ok}
-use Rattle.vs_top.specs.Call.{calls_of}
-use Rattle.vs_top.specs.State.{opening}
-use Rattle.vs_top.specs.Step.{run}
-use Rattle.vs_top.specs.Means.{means}
+use Rattle.vs_config.specs.Configuration.{configuration}
+use Rattle.vs_script.specs.Scripts.{scripts}
+use Rattle.vs_top.specs.Plays.{start}
+use Rattle.vs_top.proofs.Runs.{PlayedSoFar}
 use Rattle.vs_top.proofs.play.play.Given as goal
 
 abbrev pub invariant-loop-i : goal.invariant-loop-i
-invariant-loop-i l = run (opening l.fn.config (calls_of l.fn.calls.items)) (take l.i l.trace.items) ≡ Ok (means l.state)
+invariant-loop-i l = PlayedSoFar (start (configuration l.fn.config) (scripts l.fn.scripts)) l.trace.items l.i l.world

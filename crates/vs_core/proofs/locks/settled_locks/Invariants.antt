@@ -1,0 +1,14 @@
+use Rattle.std.proofs.Common.{◌≡◌, ℕ}
+use Rattle.std.specs.Prelude.{if◌then◌else◌}
+use Rattle.vs_refs.specs.Counts.{no_counts}
+use Rattle.vs_refs.specs.Refs.{counts_of}
+use Rattle.vs_machine.specs.Kinds.Collection.{is_garbage}
+use Rattle.vs_machine.specs.Tables.{is_to}
+use Rattle.vs_state.specs.Plain.{plain}
+use Rattle.vs_core.specs.Restarting.{kept_of, settled}
+use Rattle.vs_core.proofs.locks.settled_locks.Given as goal
+
+abbrev pub invariant-loop-before : goal.invariant-loop-before
+invariant-loop-before l =
+    (q : ℕ) → counts_of l.refs.items q
+    ≡ (if is_to l.before q then record no_counts { ro_lock = is_garbage (((settled (plain l.state) l.set (kept_of l.kept ((plain l.state).pending l.set))).bucket q).entry l.set) } else no_counts)

@@ -1,0 +1,22 @@
+//! A bucket that was given up is forgotten.
+
+ghost use Rattle.std.specs.Prelude.{◌≡◌, Ok};
+ghost use Rattle.vs_machine.specs.Kinds.Collection as collection;
+ghost use Rattle.vs_state.specs.Guard.{verdict};
+ghost use Rattle.vs_state.specs.Plain.{plain};
+ghost use Rattle.vs_core.specs.Keeps.{IsKnown, IsSound};
+
+use crate::collecting;
+use vs_base::{BucketId, SetNo};
+use vs_state::State;
+
+/// Its rows are gone, and its entry is removed.
+pub(crate) fn forget(state: &mut State, set: SetNo, bucket: BucketId)
+    requires possible { verdict (collection.forget (plain state.old) set bucket) ≡ Ok tt }
+    requires known { IsKnown (plain state.old) }
+    requires sound { IsSound state.old }
+    ensures step { collection.forget (plain state.old) set bucket ≡ Ok (plain state.new) }
+    ensures sound { IsSound state.new }
+{
+    collecting::forget(state, set, bucket);
+}

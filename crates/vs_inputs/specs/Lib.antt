@@ -1,0 +1,11 @@
+pub use Rattle.vs_host.specs.Told
+pub mod Words
+pub mod FileNames
+pub mod Built
+pub mod Files
+pub mod Places
+pub mod Gives
+pub mod Reading
+pub mod Inputs
+pub mod KindNames
+pub mod FaultLine

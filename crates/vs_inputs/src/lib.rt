@@ -1,0 +1,25 @@
+//! What a command is given: from its words to a configuration, events and gathered scripts, or the
+//! first thing that is wrong with them.
+#![tactic(auto)]
+
+mod built;
+mod config;
+mod events;
+mod fault;
+mod fault_line;
+mod inputs;
+mod kind_names;
+mod line;
+mod place;
+mod read;
+mod scripts;
+mod words;
+
+pub use built::Built;
+pub use fault::{InputFault, TextFault};
+pub use fault_line::{LONGEST_LINE, fault_buffer, put_fault};
+pub use inputs::{Inputs, read_inputs};
+pub use words::{Command, FileNames, command_of};
+
+#[cfg(test)]
+mod tests;

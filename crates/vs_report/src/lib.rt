@@ -1,0 +1,21 @@
+//! The report of a cluster: its state as a text, line by line.
+#![tactic(auto)]
+
+mod answers;
+mod buckets;
+mod clients;
+mod histories;
+mod lines;
+mod operators;
+mod ops;
+mod outcomes;
+mod reasons;
+mod sets;
+mod statuses;
+#[cfg(test)]
+mod tests;
+mod text;
+mod words;
+
+pub use reasons::put_reason;
+pub use text::report;

@@ -1,0 +1,7 @@
+use Rattle.std.proofs.Common.{ℕ, ◌≤◌}
+use Rattle.vs_state.specs.Plain.{plain}
+use Rattle.vs_survey.specs.Readers.{HasNoTransfer}
+use Rattle.vs_survey.proofs.settling.have_no_transfer.Given as goal
+
+abbrev pub invariant-loop-index : goal.invariant-loop-index
+invariant-loop-index l = (x : ℕ) → 1 ≤ x → x ≤ l.index → HasNoTransfer (plain l.state) x

@@ -1,0 +1,3 @@
+pub use Rattle.vs_core.specs.Core
+pub use Rattle.vs_machine.specs.Settling
+pub mod Readers

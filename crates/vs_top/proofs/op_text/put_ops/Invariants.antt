@@ -1,8 +1,0 @@
-use Rattle.std.proofs.Common.{◌≡◌, ◌++◌, take}
-use Rattle.std.specs.List.{flat_map}
-use Rattle.std.specs.Prelude.{codes}
-use Rattle.vs_top.specs.OpText.{op_text}
-use Rattle.vs_top.proofs.op_text.put_ops.Given as goal
-
-abbrev pub invariant-loop-op : goal.invariant-loop-op
-invariant-loop-op l = l.out.items ≡ l.initial.out.items ++ flat_map (λ o. codes " ; " ++ op_text o) (take l.op-index l.rest)

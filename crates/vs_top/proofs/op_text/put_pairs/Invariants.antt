@@ -1,7 +1,0 @@
-use Rattle.std.proofs.Common.{◌≡◌, ◌++◌, take}
-use Rattle.std.specs.List.{flat_map}
-use Rattle.vs_top.specs.OpText.{pair_text}
-use Rattle.vs_top.proofs.op_text.put_pairs.Given as goal
-
-abbrev pub invariant-loop-key : goal.invariant-loop-key
-invariant-loop-key l = l.out.items ≡ l.initial.out.items ++ flat_map pair_text (take l.key-index l.pairs)
