@@ -1,8 +1,9 @@
 #!/usr/bin/env bash
 # Plays lists of events with the proved program and with an ordinary Rust program, in one go. Both read the same files (a configuration
 # of four sets, eight clients, and the events of their calls) and put out the same report. It prints the best time of each, their ratio
-# and the memory that each takes; how the time grows from 100,000 to 400,000 events, and from 3,000 to 30,000 buckets. It needs `rt`,
-# `rustc` and `python3`, and takes some minutes the first time.
+# and the memory that each takes; how the time grows from 100,000 to 400,000 events, and from 3,000 to 30,000 buckets; and, where there
+# is `valgrind`, how the number of instructions does, which is the same in each run. It needs `rt`, `rustc` and `python3`, and takes
+# some minutes the first time.
 set -e
 top=$(cd "$(dirname "${BASH_SOURCE[0]}")/.." && pwd)
 work=$(mktemp -d)
@@ -270,7 +271,7 @@ rustc --edition 2021 -C opt-level=3 -o "$work/plain" "$work/plain.rs"
 
 # ---- the proved program, built where it isn't
 cat >"$work/measure.py" <<'PYTHON'
-import filecmp, os, random, resource, subprocess, sys, time
+import filecmp, os, random, re, resource, shutil, subprocess, sys, time
 
 top, work = sys.argv[1:]
 program = os.path.join(top, "crates/vshard/out/vshard")
@@ -323,20 +324,31 @@ def measure(command, names, out):
     return best, most
 
 
+def instructions(names):
+    """How many instructions the proved program takes."""
+    command = ["valgrind", "--tool=callgrind", "--callgrind-out-file=/dev/null", program, "play"]
+    said = subprocess.run(command + names, stdout=subprocess.DEVNULL, stderr=subprocess.PIPE, check=True).stderr.decode()
+    return int(re.search(r"Collected : (\d+)", said).group(1))
+
+
 def both(title, calls, buckets):
+    """The time of the proved program, and its inputs."""
     names = inputs(title.replace(" ", "_"), calls, buckets)
     proved = measure(program, names, os.path.join(work, "proved.out"))
     plain = measure(os.path.join(work, "plain"), names, os.path.join(work, "plain.out"))
     assert filecmp.cmp(os.path.join(work, "proved.out"), os.path.join(work, "plain.out"), shallow=False), "the reports differ"
     print(f"{title}: proved {proved[0]:.1f} ms {proved[1]:.1f} MiB, ordinary {plain[0]:.1f} ms {plain[1]:.1f} MiB, "
           f"time {proved[0] / plain[0]:.2f}, memory {proved[1] / plain[1]:.2f}")
-    return proved[0]
+    return proved[0], names
 
 
-small = both("100,000 events, 3,000 buckets", 20_000, 3_000)
-large = both("400,000 events, 3,000 buckets", 80_000, 3_000)
-wide = both("400,000 events, 30,000 buckets", 80_000, 30_000)
+small, small_names = both("100,000 events, 3,000 buckets", 20_000, 3_000)
+large, large_names = both("400,000 events, 3,000 buckets", 80_000, 3_000)
+wide, wide_names = both("400,000 events, 30,000 buckets", 80_000, 30_000)
 print(f"four times the events: {large / small:.2f} times the time; ten times the buckets: {wide / large:.2f} times")
+if shutil.which("valgrind"):
+    small, large, wide = instructions(small_names), instructions(large_names), instructions(wide_names)
+    print(f"by instructions: {large / small:.2f} times; {wide / large:.2f} times")
 PYTHON
 "$top/vshard" play "$top/examples/first/config.toml" "$top/examples/first/events.txt" "$top/examples/first/client.txt" >/dev/null
 python3 "$work/measure.py" "$top" "$work"

@@ -7,8 +7,6 @@ mod member;
 mod pairing;
 mod route;
 mod sharing;
-#[cfg(test)]
-mod tests;
 mod view;
 
 pub use disbalance::disbalanced;

@@ -8,6 +8,3 @@ mod state;
 pub use outcome::{Outcome, Outcomes};
 pub use stage::Stage;
 pub use state::CallState;
-
-#[cfg(test)]
-mod tests;

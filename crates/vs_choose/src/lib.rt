@@ -2,7 +2,5 @@
 #![tactic(auto)]
 
 mod service;
-#[cfg(test)]
-mod tests;
 
 pub use service::next_service;

@@ -2,8 +2,6 @@
 #![tactic(auto)]
 
 mod collect;
-#[cfg(test)]
-mod tests;
 mod unmet;
 
 pub use collect::{condemn, forget, wipe_some};

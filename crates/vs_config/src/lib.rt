@@ -8,8 +8,6 @@ mod read;
 mod set_list;
 mod sets;
 mod table;
-#[cfg(test)]
-mod tests;
 
 pub use config::{Config, SetConfig};
 pub use fault::{ConfigFault, ConfigKind};

@@ -1,8 +1,5 @@
 //! How a new cluster begins.
 
-#[cfg(test)]
-mod tests;
-
 ghost use Rattle.std.specs.Prelude.{◌≡◌, ◌≤◌, None, length, map, replicate, sum, IfOk};
 ghost use Rattle.vs_config.specs.Configuration.{configuration};
 ghost use Rattle.vs_history.specs.Means as history;

@@ -14,6 +14,3 @@ pub use disk::{Disk, DiskFailed, DiskOpen};
 pub use file::FileDisk;
 pub use memory::MemDisk;
 pub use plain::PlainDisk;
-
-#[cfg(test)]
-mod tests;

@@ -80,22 +80,3 @@ impl Trace {
         self.events.push(event);
     }
 }
-
-#[cfg(test)]
-mod tests {
-    use super::*;
-    use vs_base::ClientNo;
-
-    #[test]
-    fn grows_by_one_event(rt: HostRuntime) {
-        let mut trace = Trace::new(rt.alloc());
-        assert_eq!(rt; trace.len(), 0);
-        match (trace.reserve(), ClientNo::new(7)) {
-            (Ok(_), Some(client)) => {
-                trace.push(Event::Take(client));
-                assert_eq!(rt; trace.get(0), Some(Event::Take(client)));
-            }
-            _ => panic!(rt; "memory"),
-        }
-    }
-}

@@ -15,6 +15,3 @@ pub use fault::FrameFault;
 pub use frame::Frame;
 pub use head::Head;
 pub use scan::reading_laws;
-
-#[cfg(test)]
-mod tests;

@@ -6,6 +6,3 @@ mod history;
 
 pub use entry::Entry;
 pub use history::History;
-
-#[cfg(test)]
-mod tests;

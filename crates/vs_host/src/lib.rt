@@ -6,8 +6,6 @@ mod host;
 mod memory;
 mod named_file;
 mod real;
-#[cfg(test)]
-mod tests;
 
 pub use fault::{HostFailed, HostRead};
 pub use host::Host;

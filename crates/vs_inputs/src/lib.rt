@@ -20,6 +20,3 @@ pub use fault::{InputFault, TextFault};
 pub use fault_line::{LONGEST_LINE, fault_buffer, put_fault};
 pub use inputs::{Inputs, read_inputs};
 pub use words::{Command, FileNames, command_of};
-
-#[cfg(test)]
-mod tests;

@@ -4,8 +4,6 @@
 mod connection;
 mod links;
 mod message;
-#[cfg(test)]
-mod tests;
 
 pub use links::Links;
 pub use message::{Empty, Heard, Msg, Posted};

@@ -15,6 +15,3 @@ pub use read::read_change;
 pub use row_table::RowTable;
 pub use set_state::SetState;
 pub use write::write_change;
-
-#[cfg(test)]
-mod tests;

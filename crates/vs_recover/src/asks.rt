@@ -75,23 +75,3 @@ impl Asks {
         self.table.remove(&id);
     }
 }
-
-#[cfg(test)]
-mod tests {
-    use super::*;
-
-    #[test]
-    fn keeps_one_ask_a_bucket(rt: HostRuntime) {
-        let Some(id) = BucketId::new(3) else {
-            return;
-        };
-        let mut asks = Asks::new(rt.alloc());
-        assert_eq!(rt; asks.reserve(), Ok(()));
-        asks.put(id, 4, 9);
-        assert_eq!(rt; asks.get(id), Some((4, 9)));
-        assert_eq!(rt; asks.matches(id, 4, 9), true);
-        assert_eq!(rt; asks.matches(id, 5, 9), false);
-        asks.drop_ask(id);
-        assert_eq!(rt; asks.get(id), None);
-    }
-}

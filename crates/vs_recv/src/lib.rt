@@ -2,8 +2,6 @@
 #![tactic(auto)]
 
 mod message;
-#[cfg(test)]
-mod tests;
 mod took;
 
 pub use message::receive;

@@ -1,5 +1,5 @@
 -- What an edit of the entries leaves of each bucket's counts.
-use Rattle.std.proofs.Common.{◌≡◌, ◌≢◌, ℕ, ◌+◌, ◌<◌, Bool, true, false, List, Some, None, Option, MatchOption, if◌then◌else◌, ◌==◌, unwrap_or, refl, ap, ◌∙◌, eqb-true, arith}
+use Rattle.std.proofs.Common.{◌≡◌, ◌≢◌, ℕ, ◌+◌, ◌<◌, Bool, true, false, List, Some, None, Option, MatchOption, if◌then◌else◌, ◌==◌, unwrap_or, refl, sym, ap, ◌∙◌, eqb-true, arith}
 use Rattle.std.specs.Ordering.{nat_cmp, is_eq}
 use Rattle.std.proofs.lemmas.Bool.Decides.{nat_tests}
 use Rattle.vs_base.specs.declared.numbers.Mode.{Mode}
@@ -7,7 +7,7 @@ use Rattle.vs_base.specs.declared.numbers.Mode.TheVariants.{Ro, Rw}
 use Rattle.vs_table.specs.Entries.{value_of, Updates}
 use Rattle.vs_refs.specs.declared.counts.Counts.{Counts}
 use Rattle.vs_refs.specs.Counts.{no_counts, count_of}
-use Rattle.vs_refs.specs.Refs.{counts_of}
+use Rattle.vs_refs.specs.Refs.{counts_of, LeavesCounts}
 
 -- the comparison of two numbers as a test
 same_test : (x y : ℕ) → is_eq (nat_cmp x y) ≡ (x == y)
@@ -51,3 +51,16 @@ has_entry entries id mode above none =
 pub room_kept : (old : Option Counts) (now before : ℕ) → old ≢ None → MatchOption old (now + 1 ≡ before) (λ _. now ≡ before) → now ≡ before
 room_kept None now before some room = absurd (some refl)
 room_kept (Some c) now before some room = room
+
+-- new counts change their bucket alone
+pub left : (id : ℕ) (counts : Counts) (old new : List (ℕ × Counts)) → Updates nat_cmp old new id (Some counts) → LeavesCounts id counts old new
+left id counts old new updates b = counts_at id b (Some counts) old new updates
+
+pub none_left : (id : ℕ) (counts : Counts) (old new : List (ℕ × Counts)) → counts ≡ no_counts → ((b : ℕ) → counts_of new b ≡ (if id == b then no_counts else counts_of old b)) → LeavesCounts id counts old new
+none_left id counts old new none dropped b = dropped b ∙ ap (λ c. if id == b then c else counts_of old b) (sym none)
+
+-- counts by a change of those that were there change their bucket by it
+pub by_change : (change : Counts → Counts) (id : ℕ) (counts : Counts) (old new : List (ℕ × Counts)) → counts ≡ change (counts_of old id) → LeavesCounts id counts old new →
+    (b : ℕ) → counts_of new b ≡ (if id == b then change (counts_of old b) else counts_of old b)
+by_change change id counts old new is leaves b =
+    leaves b ∙ chosen (id == b) counts (change (counts_of old b)) (counts_of old b) (λ same. is ∙ ap (λ q. change (counts_of old q)) (eqb-true id b same))

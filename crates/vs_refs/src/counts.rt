@@ -1,6 +1,6 @@
 //! The references of one bucket.
 
-ghost use Rattle.std.specs.Prelude.{◌≡◌};
+ghost use Rattle.std.specs.Prelude.{◌≡◌, ◌↔◌, IsTrue};
 
 use vs_base::Mode;
 
@@ -19,7 +19,7 @@ pub struct Counts {
 }
 
 impl Counts {
-    ghost use Rattle.vs_refs.specs.Counts.{count_of, lock_of, with_count, with_lock};
+    ghost use Rattle.vs_refs.specs.Counts.{no_counts, count_of, lock_of, with_count, with_lock};
 
     /// How many calls of this mode are running.
     pub fn count(self, mode: Mode) -> u32
@@ -39,6 +39,21 @@ impl Counts {
             Mode::Ro => self.ro_lock,
             Mode::Rw => self.rw_lock,
         }
+    }
+
+    /// Whether there are no references and no locks.
+    pub fn is_none(self) -> bool
+        ensures { IsTrue result ↔ (self ≡ no_counts) }
+    {
+        matches!(
+            self,
+            Counts {
+                ro: 0,
+                rw: 0,
+                ro_lock: false,
+                rw_lock: false,
+            }
+        )
     }
 
     /// The same, but for the number of calls of this mode.

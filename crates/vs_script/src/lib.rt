@@ -27,6 +27,3 @@ pub use gathering::gather;
 pub use read::read_script;
 pub use script::Script;
 pub use scripts::{ClientCalls, OperatorCommands, Scripts};
-
-#[cfg(test)]
-mod tests;

@@ -2,8 +2,6 @@
 #![tactic(auto)]
 
 mod abort;
-#[cfg(test)]
-mod tests;
 mod transfer;
 
 pub use abort::AbortCause;

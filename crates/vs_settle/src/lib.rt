@@ -8,8 +8,6 @@ mod messages;
 mod reads;
 mod service;
 mod steps;
-#[cfg(test)]
-mod tests;
 
 pub use laws::finished_is_quiet;
 pub use service::{can_settle, settle};

@@ -7,8 +7,6 @@ mod grant;
 mod reply;
 mod space;
 mod status;
-#[cfg(test)]
-mod tests;
 
 pub use change::{NotAllowed, may_change};
 pub use grant::verdict;

@@ -7,6 +7,3 @@ mod store;
 
 pub use fault::StoreFault;
 pub use store::Store;
-
-#[cfg(test)]
-mod tests;

@@ -3,8 +3,6 @@
 
 mod serving;
 mod settling;
-#[cfg(test)]
-mod tests;
 
 pub use serving::{Ids, page, serves};
 pub use settling::{finished, settled};

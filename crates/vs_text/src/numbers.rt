@@ -83,26 +83,3 @@ pub fn put_number(out: &mut Vec<u8>, n: u64) -> Result<(), NoMemory>
     out.extend_from_slice(Buffer::new().format(n).as_bytes())?;
     Ok(())
 }
-
-#[cfg(test)]
-mod tests {
-    use super::*;
-
-    #[test]
-    fn reads_and_writes_numbers(rt: HostRuntime) {
-        assert_eq!(rt; number(b"000000012"), Some(12));
-        assert_eq!(rt; number(b"0000000012"), None);
-        assert_eq!(rt; number(b"+1"), None);
-        assert_eq!(rt; number(b""), None);
-        assert_eq!(rt;
-            number_between(b"18446744073709551615", 0, u64::MAX),
-            Some(u64::MAX)
-        );
-        assert_eq!(rt; number_between(b"18446744073709551616", 0, u64::MAX), None);
-        assert_eq!(rt; number_between(b"01", 0, 9), None);
-        assert_eq!(rt; number_between(b"0", 0, 9), Some(0));
-        let mut out = Vec::new(rt.alloc());
-        assert!(rt; put_number(&mut out, 0).is_ok() && put_number(&mut out, u64::MAX).is_ok());
-        assert_eq!(rt; out.as_slice(), b"018446744073709551615".as_slice());
-    }
-}

@@ -4,8 +4,6 @@
 mod fault;
 mod fault_line;
 mod play;
-#[cfg(test)]
-mod tests;
 mod top;
 
 pub use top::play_main;

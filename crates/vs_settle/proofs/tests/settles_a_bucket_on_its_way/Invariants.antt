@@ -1,4 +1,0 @@
-use Rattle.vs_settle.proofs.tests.settles_a_bucket_on_its_way.Given as goal
-
-abbrev pub ghosts-settle_counted : goal.ghosts-settle_counted
-ghosts-settle_counted g a = record { name = a.blank.name; parts = a.blank.parts }

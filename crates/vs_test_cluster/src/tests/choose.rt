@@ -1,0 +1,99 @@
+//! What the services of two sets do while a bucket is moved.
+
+use std::alloc::Global;
+use std::process::Abort;
+use std::test::Fail;
+use vs_base::SetNo;
+use vs_choose::next_service;
+use vs_config::read_config;
+use vs_core::Core;
+use vs_event::{Event, Trace, read_events, write_events};
+use vs_script::{gather, read_script};
+
+// Buckets 1 and 2 are at set 1, buckets 3 and 4 at set 2.
+const CONFIG: &str =
+    "bucket_count = 4\n[[set]]\nuuid = \"00000000-0000-4000-8000-000000000001\"\n[[set]]\nuuid = \"00000000-0000-4000-8000-000000000002\"\n";
+
+/// A cluster of two sets: its first operator moves bucket 1, its second stops set 1.
+fn boot(alloc: Global) -> Result<Core, Fail> {
+    let config = read_config(alloc, CONFIG.as_bytes())?;
+    let moves = read_script(alloc, b"operator\nsend 1 1 2\n", &config)?;
+    let stops = read_script(alloc, b"operator\nstop 1\n", &config)?;
+    let mut given = Vec::new(alloc);
+    given.push(moves)?;
+    given.push(stops)?;
+    let scripts = gather(alloc, given)?;
+    Ok(Core::boot(alloc, config, scripts)?)
+}
+
+/// Carries out an event that can happen.
+fn step<R: Abort>(rt: &R, core: &mut Core, event: &Event) -> Result<(), Fail> {
+    assert!(rt; core.can(event).is_ok(), "{event:?} can happen");
+    core.reserve_for(event)?;
+    core.apply(event);
+    Ok(())
+}
+
+/// The service of the set does one thing, where it can, which is added to the list.
+fn act<R: Abort>(rt: &R, core: &mut Core, set: SetNo, done: &mut Trace) -> Result<bool, Fail> {
+    let Some(event) = next_service(core, set) else {
+        return Ok(false);
+    };
+    step(rt, core, &event)?;
+    done.reserve()?;
+    done.push(event);
+    Ok(true)
+}
+
+/// The service of each set does one thing, where it can. Whether one of them did.
+fn turn<R: Abort>(rt: &R, core: &mut Core, done: &mut Trace) -> Result<bool, Fail> {
+    let mut acted = false;
+    for number in 1..3 {
+        let set = SetNo::new(number).expect(rt, "a set");
+        acted |= act(rt, core, set, done)?;
+    }
+    Ok(acted)
+}
+
+/// The services act in turn, for as long as one of them can.
+fn serve<R: Abort>(rt: &R, core: &mut Core, done: &mut Trace) -> Result<(), Fail> {
+    for _ in 0..10 {
+        if !turn(rt, core, done)? {
+            break;
+        }
+    }
+    Ok(())
+}
+
+/// Each event of the text happens, and after it the services do what they can. This is the text of what they did.
+fn served<R: Abort>(rt: &R, alloc: Global, events: &[u8]) -> Result<Vec<u8>, Fail> {
+    let mut core = boot(alloc)?;
+    let mut done = Trace::new(alloc);
+    let events = read_events(alloc, events)?;
+    for event in events.as_slice() {
+        step(rt, &mut core, event)?;
+        serve(rt, &mut core, &mut done)?;
+    }
+    Ok(write_events(alloc, &done)?)
+}
+
+// Set 2 doesn't ask about the bucket that it receives while set 1 moves it.
+#[test]
+fn carries_a_move(rt: HostRuntime) -> Result<(), Fail> {
+    let events = b"start 1\nfreeze 1 1\nchunk 1 1\nseal 1 1\nlast 1 1\nendmove 1 1\n";
+    let done = served(&rt, rt.alloc(), events)?;
+    let want: &[u8] = b"deliver 1 2\nhear 1 2\ndeliver 1 2\nhear 1 2\ncondemn 1 1\nforget 1 1\n";
+    assert_eq!(rt; done.as_slice(), want);
+    Ok(())
+}
+
+// The move is interrupted, and the bucket is back at set 1.
+#[test]
+fn settles_an_interrupted_move(rt: HostRuntime) -> Result<(), Fail> {
+    let events = b"start 1\nfreeze 1 1\nchunk 1 1\nstop 2\n";
+    let done = served(&rt, rt.alloc(), events)?;
+    let want: &[u8] =
+        b"deliver 1 2\nhear 1 2\nrestart 1 bare service\nask 2 1\ndeliver 2 1\nhear 2 1\nask 1 1\ndeliver 1 2\nhear 1 2\nforget 2 1\n";
+    assert_eq!(rt; done.as_slice(), want);
+    Ok(())
+}

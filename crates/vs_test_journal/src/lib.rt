@@ -1,0 +1,8 @@
+//! Tests of the disk, of a journal's bytes, its records, and their store.
+#![tactic(auto)]
+
+mod journals;
+#[cfg(test)]
+mod tests;
+
+pub use journals::{JOURNAL, NEVER, head};

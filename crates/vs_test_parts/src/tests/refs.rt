@@ -1,0 +1,32 @@
+//! References that are counted, and a lock.
+
+use vs_base::{BucketId, Mode};
+use vs_refs::{Counts, Locked, Refs};
+
+#[test]
+fn counts_references_and_refuses_under_a_lock(rt: HostRuntime) {
+    let Some(id) = BucketId::new(3) else {
+        return;
+    };
+    let mut refs = Refs::new(rt.alloc());
+    assert_eq!(rt; refs.reserve(), Ok(()));
+    assert_eq!(rt; refs.take(id, Mode::Rw), Ok(()));
+    assert_eq!(rt; refs.reserve(), Ok(()));
+    refs.lock(id, Mode::Rw);
+    let held = Counts {
+        rw: 1,
+        rw_lock: true,
+        ..Counts::default()
+    };
+    assert_eq!(rt; refs.counts(id), held);
+    assert!(rt; refs.counts(id).count(Mode::Rw) == 1);
+    assert_eq!(rt; refs.reserve(), Ok(()));
+    assert_eq!(rt; refs.take(id, Mode::Rw), Err(Locked));
+    assert!(rt; refs.counts(id).count(Mode::Rw) == 1);
+    refs.give(id, Mode::Rw);
+    refs.unlock(id, Mode::Rw);
+    assert_eq!(rt; refs.counts(id), Counts::default());
+    refs.drop_bucket(id);
+    refs.clear();
+    assert_eq!(rt; refs.counts(id), Counts::default());
+}
