@@ -1,5 +1,6 @@
 mod EventLines
 mod EventsText
+mod Joined
 mod LongWords
 mod RecordedWords
 mod Shapes

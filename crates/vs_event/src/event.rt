@@ -6,7 +6,7 @@ use std::mem::size_of;
 use vs_base::{BucketId, ClientNo, OpNo, SetNo};
 
 /// An event that records a change at a set, and that a fault of its disk may interrupt.
-#[derive(Clone, Copy, Debug, PartialEq, Eq)]
+#[derive(Clone, Copy)]
 pub enum Recorded {
     /// The client's call acts.
     Act(ClientNo),
@@ -29,7 +29,7 @@ pub enum Recorded {
 }
 
 /// Who restarts a set.
-#[derive(Clone, Copy, Debug, PartialEq, Eq)]
+#[derive(Clone, Copy)]
 pub enum RestartBy {
     /// The next command of this operator.
     Line(OpNo),
@@ -38,7 +38,7 @@ pub enum RestartBy {
 }
 
 /// One atomic action of one actor of a cluster.
-#[derive(Clone, Copy, Debug, PartialEq, Eq)]
+#[derive(Clone, Copy)]
 pub enum Event {
     /// The client posts its next call to the set.
     Post(ClientNo, SetNo),

@@ -3,7 +3,7 @@
 use vs_base::NoMemory;
 
 /// Why a text of events is not read.
-#[derive(Clone, Copy, Debug, PartialEq, Eq)]
+#[derive(Clone, Copy, Debug)]
 pub enum EventFault {
     /// The line of this number, from 1, is the first that is no event's.
     BadEvent(u64),

@@ -4,7 +4,7 @@ use vs_base::{BucketId, SetNo};
 use vs_space::Status;
 
 /// Why an event can't happen in a state of the cluster.
-#[derive(Clone, Copy, Debug, PartialEq, Eq)]
+#[derive(Clone, Copy, Debug)]
 pub enum Reason {
     /// A client, operator, set or bucket that isn't in the cluster.
     Unknown,

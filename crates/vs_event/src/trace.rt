@@ -1,6 +1,6 @@
 //! Lists of events.
 
-ghost use Rattle.std.specs.Prelude.{◌≡◌, ◌<◌, ◌≤◌, ◌+◌, ◌^◌, [], ◌∷◌, ◌++◌, length, slice_get, OnOk};
+ghost use Rattle.std.specs.Prelude.{◌≡◌, ◌<◌, ◌≤◌, ◌+◌, ◌^◌, [], ◌∷◌, ◌++◌, drop, length, slice_get, OnOk};
 
 use crate::event::{Event, Recorded, RestartBy};
 use std::alloc::Global;
@@ -9,14 +9,12 @@ use vs_base::{Items, NoMemory};
 
 /// A list of events, in the order in which they happened. Contracts see the events and the number
 /// of free places.
-#[derive(Debug, Drop)]
+#[derive(Drop)]
 pub struct Trace {
     events: Items<Event>,
 }
 
 impl Model for Trace {
-    ghost use Rattle.std.specs.Prelude.{List, ℕ, refl};
-    ghost use Rattle.std.specs.Coded.{code_by, coded×, coded_ℕ, coded_list};
     ghost use Rattle.vs_base.specs.Listed.{Listed};
     ghost use Rattle.vs_event.specs.declared.event.Event.{Event};
 
@@ -58,6 +56,15 @@ impl Trace {
         ensures { result.now ≡ self.now.items }
     {
         self.events.as_slice()
+    }
+
+    /// The events from this index on, counted from 0.
+    pub(crate) fn events_from(&self, i: u64) -> &[Event]
+        requires { i ≤ length self.now.items }
+        ensures value { result.now ≡ drop i self.now.items }
+        ensures small { i + length result.now < 2 ^ 63 }
+    {
+        &self.events.as_slice()[i as usize..]
     }
 
     /// Makes room for one event.

@@ -1,86 +1,102 @@
 //! Events as text.
 
-ghost use Rattle.std.specs.Prelude.{◌≡◌, ◌∷◌, [], ◌++◌, codes, decimal, OnOk, IfOk};
+ghost use Rattle.std.specs.Prelude.{◌≡◌, ◌≤◌, ◌∷◌, [], ◌++◌, length, decimal, OnOk, IfOk};
 ghost use Rattle.std.specs.List.{join_with_byte};
 ghost use Rattle.vs_event.specs.declared.event.Event.TheVariants as event;
+ghost use Rattle.vs_event.specs.Adds.{Adds, line_room};
 ghost use Rattle.vs_event.specs.Event.{AreEvents, IsEvent, event_line, events_text, kept_word, restart_words};
 ghost use Rattle.vs_event.specs.Recorded.{recorded_words};
 
+use crate::buffer::TextBuffer;
 use crate::event::{Event, Recorded, RestartBy};
 use crate::trace::Trace;
 use std::alloc::Global;
 use vs_base::{BucketId, ClientNo, NoMemory, OpNo, SetNo};
-use vs_text::put_number;
 
-fn put_one(out: &mut Vec<u8>, verb: &[u8], number: u64) -> Result<(), NoMemory>
-    ensures { OnOk result (out.new.items ≡ out.old.items
-        ++ join_with_byte 32 (verb.now ∷ decimal number ∷ [])) }
+/// How many bytes of room suffice for the line of any event.
+pub(crate) const LONGEST_LINE: usize = 100;
+
+// A line is written into a buffer with room for it: a first word has at most 7 bytes, a number 20.
+
+fn put_one(out: &mut TextBuffer, verb: &[u8], number: u64)
+    requires verb { length verb.now ≤ 7 }
+    requires room { 28 ≤ out.old.room }
+    ensures { Adds 28 out.old out.new (join_with_byte 32 (verb.now ∷ decimal number ∷ [])) }
 {
-    out.extend_from_slice(verb)?;
-    out.push(b' ')?;
-    put_number(out, number)
+    out.put(verb);
+    out.put(b" ");
+    out.put_number(number);
 }
 
-fn put_two(out: &mut Vec<u8>, verb: &[u8], first: u64, last: u64) -> Result<(), NoMemory>
-    ensures { OnOk result (out.new.items ≡ out.old.items
-        ++ join_with_byte 32 (verb.now ∷ decimal first ∷ decimal last ∷ [])) }
+fn put_two(out: &mut TextBuffer, verb: &[u8], first: u64, last: u64)
+    requires verb { length verb.now ≤ 7 }
+    requires room { 49 ≤ out.old.room }
+    ensures { Adds 49 out.old out.new
+        (join_with_byte 32 (verb.now ∷ decimal first ∷ decimal last ∷ [])) }
 {
-    put_one(out, verb, first)?;
-    out.push(b' ')?;
-    put_number(out, last)
+    put_one(out, verb, first);
+    out.put(b" ");
+    out.put_number(last);
 }
 
-fn put_client(out: &mut Vec<u8>, verb: &[u8], client: ClientNo) -> Result<(), NoMemory>
-    ensures { OnOk result (out.new.items ≡ out.old.items
-        ++ join_with_byte 32 (verb.now ∷ decimal client ∷ [])) }
+fn put_client(out: &mut TextBuffer, verb: &[u8], client: ClientNo)
+    requires verb { length verb.now ≤ 7 }
+    requires room { 28 ≤ out.old.room }
+    ensures { Adds 28 out.old out.new (join_with_byte 32 (verb.now ∷ decimal client ∷ [])) }
 {
-    put_one(out, verb, u64::from(client.get()))
+    put_one(out, verb, u64::from(client.get()));
 }
 
-fn put_operator(out: &mut Vec<u8>, verb: &[u8], operator: OpNo) -> Result<(), NoMemory>
-    ensures { OnOk result (out.new.items ≡ out.old.items
-        ++ join_with_byte 32 (verb.now ∷ decimal operator ∷ [])) }
+fn put_operator(out: &mut TextBuffer, verb: &[u8], operator: OpNo)
+    requires verb { length verb.now ≤ 7 }
+    requires room { 28 ≤ out.old.room }
+    ensures { Adds 28 out.old out.new (join_with_byte 32 (verb.now ∷ decimal operator ∷ [])) }
 {
-    put_one(out, verb, u64::from(operator.get()))
+    put_one(out, verb, u64::from(operator.get()));
 }
 
-fn put_bucket(out: &mut Vec<u8>, verb: &[u8], set: SetNo, bucket: BucketId) -> Result<(), NoMemory>
-    ensures { OnOk result (out.new.items ≡ out.old.items
-        ++ join_with_byte 32 (verb.now ∷ decimal set ∷ decimal bucket ∷ [])) }
+fn put_bucket(out: &mut TextBuffer, verb: &[u8], set: SetNo, bucket: BucketId)
+    requires verb { length verb.now ≤ 7 }
+    requires room { 49 ≤ out.old.room }
+    ensures { Adds 49 out.old out.new
+        (join_with_byte 32 (verb.now ∷ decimal set ∷ decimal bucket ∷ [])) }
 {
-    put_two(out, verb, u64::from(set.get()), u64::from(bucket.get()))
+    put_two(out, verb, u64::from(set.get()), u64::from(bucket.get()));
 }
 
-fn put_sets(out: &mut Vec<u8>, verb: &[u8], first: SetNo, last: SetNo) -> Result<(), NoMemory>
-    ensures { OnOk result (out.new.items ≡ out.old.items
-        ++ join_with_byte 32 (verb.now ∷ decimal first ∷ decimal last ∷ [])) }
+fn put_sets(out: &mut TextBuffer, verb: &[u8], first: SetNo, last: SetNo)
+    requires verb { length verb.now ≤ 7 }
+    requires room { 49 ≤ out.old.room }
+    ensures { Adds 49 out.old out.new
+        (join_with_byte 32 (verb.now ∷ decimal first ∷ decimal last ∷ [])) }
 {
-    put_two(out, verb, u64::from(first.get()), u64::from(last.get()))
+    put_two(out, verb, u64::from(first.get()), u64::from(last.get()));
 }
 
-fn put_post(out: &mut Vec<u8>, client: ClientNo, set: SetNo) -> Result<(), NoMemory>
-    ensures { OnOk result (out.new.items ≡ out.old.items ++ event_line (event.Post client set)) }
+fn put_post(out: &mut TextBuffer, client: ClientNo, set: SetNo)
+    requires { 49 ≤ out.old.room }
+    ensures { Adds 49 out.old out.new (event_line (event.Post client set)) }
 {
-    put_two(out, b"post", u64::from(client.get()), u64::from(set.get()))
+    put_two(out, b"post", u64::from(client.get()), u64::from(set.get()));
 }
 
-fn put_haul(out: &mut Vec<u8>, operator: OpNo, from: SetNo, to: SetNo) -> Result<(), NoMemory>
-    ensures { OnOk result (out.new.items ≡ out.old.items
-        ++ event_line (event.Haul operator from to)) }
+fn put_haul(out: &mut TextBuffer, operator: OpNo, from: SetNo, to: SetNo)
+    requires { 70 ≤ out.old.room }
+    ensures { Adds 70 out.old out.new (event_line (event.Haul operator from to)) }
 {
     put_two(
         out,
         b"haul",
         u64::from(operator.get()),
         u64::from(from.get()),
-    )?;
-    out.push(b' ')?;
-    put_number(out, u64::from(to.get()))
+    );
+    out.put(b" ");
+    out.put_number(u64::from(to.get()));
 }
 
-fn put_recorded(out: &mut Vec<u8>, recorded: Recorded) -> Result<(), NoMemory>
-    ensures { OnOk result (out.new.items ≡ out.old.items
-        ++ join_with_byte 32 (recorded_words recorded)) }
+fn put_recorded(out: &mut TextBuffer, recorded: Recorded)
+    requires { 49 ≤ out.old.room }
+    ensures { Adds 49 out.old out.new (join_with_byte 32 (recorded_words recorded)) }
 {
     match recorded {
         Recorded::Act(client) => put_client(out, b"act", client),
@@ -95,55 +111,49 @@ fn put_recorded(out: &mut Vec<u8>, recorded: Recorded) -> Result<(), NoMemory>
     }
 }
 
-fn put_fault(out: &mut Vec<u8>, set: SetNo, number: u64, recorded: Recorded) -> Result<(), NoMemory>
-    ensures { OnOk result (out.new.items ≡ out.old.items
-        ++ event_line (event.Fault set number recorded)) }
+fn put_fault(out: &mut TextBuffer, set: SetNo, number: u64, recorded: Recorded)
+    requires { 99 ≤ out.old.room }
+    ensures { Adds 99 out.old out.new (event_line (event.Fault set number recorded)) }
 {
-    put_two(out, b"fault", u64::from(set.get()), number)?;
-    out.push(b' ')?;
-    put_recorded(out, recorded)
+    put_two(out, b"fault", u64::from(set.get()), number);
+    out.put(b" ");
+    put_recorded(out, recorded);
 }
 
-fn put_restart_by(out: &mut Vec<u8>, by: RestartBy) -> Result<(), NoMemory>
-    ensures { OnOk result (out.new.items ≡ out.old.items
-        ++ join_with_byte 32 (restart_words by)) }
+fn put_restart_by(out: &mut TextBuffer, by: RestartBy)
+    requires { 28 ≤ out.old.room }
+    ensures { Adds 28 out.old out.new (join_with_byte 32 (restart_words by)) }
 {
     match by {
         RestartBy::Line(operator) => put_operator(out, b"line", operator),
-        RestartBy::Service => {
-            out.extend_from_slice(b"service")?;
-            Ok(())
-        }
+        RestartBy::Service => out.put(b"service"),
     }
 }
 
 fn kept_word(kept: bool) -> &'static [u8]
-    ensures { result.now ≡ kept_word kept }
+    ensures word { result.now ≡ kept_word kept }
+    ensures short { length result.now ≤ 4 }
 {
     if kept { b"kept" } else { b"bare" }
 }
 
-fn put_restart(out: &mut Vec<u8>, set: SetNo, kept: bool, by: RestartBy) -> Result<(), NoMemory>
-    ensures { OnOk result (out.new.items ≡ out.old.items
-        ++ event_line (event.Restart set kept by)) }
+fn put_restart(out: &mut TextBuffer, set: SetNo, kept: bool, by: RestartBy)
+    requires { 62 ≤ out.old.room }
+    ensures { Adds 62 out.old out.new (event_line (event.Restart set kept by)) }
 {
-    put_one(out, b"restart", u64::from(set.get()))?;
-    out.push(b' ')?;
-    out.extend_from_slice(kept_word(kept))?;
-    out.push(b' ')?;
-    put_restart_by(out, by)
+    put_one(out, b"restart", u64::from(set.get()));
+    out.put(b" ");
+    out.put(kept_word(kept));
+    out.put(b" ");
+    put_restart_by(out, by);
 }
 
-fn put_event(out: &mut Vec<u8>, event: Event) -> Result<(), NoMemory>
-    ensures { OnOk result (out.new.items ≡ out.old.items ++ event_line event) }
+fn put_event(out: &mut TextBuffer, event: Event)
+    requires { 99 ≤ out.old.room }
+    ensures { Adds 99 out.old out.new (event_line event) }
 {
     match event {
-        Event::Post(client, set) => put_two(
-            out,
-            b"post",
-            u64::from(client.get()),
-            u64::from(set.get()),
-        ),
+        Event::Post(client, set) => put_post(out, client, set),
         Event::Begin(client) => put_client(out, b"begin", client),
         Event::Act(client) => put_client(out, b"act", client),
         Event::End(client) => put_client(out, b"end", client),
@@ -173,13 +183,14 @@ fn put_event(out: &mut Vec<u8>, event: Event) -> Result<(), NoMemory>
     }
 }
 
-fn put_line(out: &mut Vec<u8>, event: Event) -> Result<(), NoMemory>
-    ensures text { OnOk result (out.new.items ≡ out.old.items ++ (event_line event ++ 10 ∷ [])) }
+/// Adds the line of an event.
+pub(crate) fn put_line(out: &mut TextBuffer, event: Event)
+    requires { line_room ≤ out.old.room }
+    ensures text { Adds line_room out.old out.new (event_line event ++ 10 ∷ []) }
     ensures is_event { IsEvent event }
 {
-    put_event(out, event)?;
-    out.push(b'\n')?;
-    Ok(())
+    put_event(out, event);
+    out.put(b"\n");
 }
 
 /// The text of events, one a line: its words are separated by one space, and each line is ended by
@@ -190,9 +201,10 @@ pub fn write_events(alloc: Global, trace: &Trace) -> Result<Vec<u8>, NoMemory>
     // So the text is one that `read_events` reads again.
     ensures are_events { OnOk result (AreEvents trace.now.items) }
 {
-    let mut out = Vec::new(alloc);
+    let mut out = TextBuffer::new(alloc);
     for event in trace.as_slice() {
-        put_line(&mut out, *event)?;
+        out.reserve(LONGEST_LINE)?;
+        put_line(&mut out, *event);
     }
-    Ok(out)
+    Ok(out.into_vec())
 }

@@ -12,5 +12,5 @@ pub enum HostRead {
 }
 
 /// A text was not put out or logged, or only a front of it. The count of write faults has risen.
-#[derive(Clone, Copy, Debug, PartialEq, Eq)]
+#[derive(Clone, Copy, Debug)]
 pub struct HostFailed;

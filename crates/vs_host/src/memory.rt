@@ -15,7 +15,7 @@ use vs_base::raised;
 ///
 /// Its calls are counted from 1, those of `read`, `out` and `log` together. A call of `out` or `log`
 /// that is to fail takes the first half of its bytes.
-#[derive(Debug, Drop)]
+#[derive(Drop)]
 pub struct MemHost {
     files: Vec<NamedFile>,
     out: Vec<u8>,

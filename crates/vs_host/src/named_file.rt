@@ -5,7 +5,7 @@ ghost use Rattle.std.specs.Option.{option_map};
 ghost use Rattle.vs_host.specs.Files.{file_of};
 
 /// A file and its name.
-#[derive(Debug, Drop)]
+#[derive(Drop)]
 pub struct NamedFile {
     pub name: String,
     pub bytes: Vec<u8>,

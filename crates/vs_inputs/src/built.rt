@@ -2,7 +2,7 @@
 
 /// How much of the cluster is built. A text that is in its form and asks for more is told as
 /// [`TextFault::NotBuilt`](crate::TextFault::NotBuilt).
-#[derive(Clone, Copy, Debug, PartialEq, Eq)]
+#[derive(Clone, Copy)]
 pub enum Built {
     /// Several sets, between which buckets move: no event `fault`, and no command `stop`, `restart`
     /// or `balance`.

@@ -5,7 +5,7 @@ use vs_config::{ConfigKey, ConfigKind};
 use vs_script::{GatherKind, ScriptKind};
 
 /// What is wrong with the text of an input.
-#[derive(Clone, Copy, Debug, PartialEq, Eq)]
+#[derive(Clone, Copy, Debug)]
 pub enum TextFault {
     /// The file is longer than a text may be.
     TooLong,
@@ -24,7 +24,7 @@ pub enum TextFault {
 
 /// Why inputs are not taken. An input is named by the place of its file among the words after the
 /// command, from 1.
-#[derive(Clone, Copy, Debug, PartialEq, Eq)]
+#[derive(Clone, Copy, Debug)]
 pub enum InputFault {
     /// This is wrong with the text of the input.
     Text(u64, TextFault),

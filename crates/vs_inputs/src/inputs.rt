@@ -23,7 +23,7 @@ use vs_host::Host;
 use vs_script::{GatherFault, Script, Scripts, gather};
 
 /// What the files of a command give.
-#[derive(Debug, Drop)]
+#[derive(Drop)]
 pub struct Inputs {
     pub config: Config,
     pub trace: Trace,

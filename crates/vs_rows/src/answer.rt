@@ -8,7 +8,7 @@ use std::alloc::Global;
 use vs_base::{Items, NoMemory};
 
 /// What an operation answers.
-#[derive(Debug, Drop)]
+#[derive(Drop)]
 pub enum Answer {
     /// The value of the key.
     Value(Val),

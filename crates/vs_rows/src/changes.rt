@@ -20,7 +20,7 @@ use vs_base::NoMemory;
 /// Changes of rows: keys, each with the value that it gets, or with none where its row goes. The
 /// keys rise in byte order, so none stands twice. Contracts see the changes, and the number of
 /// free places.
-#[derive(Debug, Drop)]
+#[derive(Drop)]
 pub struct Changes {
     changes: Vec<(Key, Option<Val>)>,
 }

@@ -6,9 +6,10 @@ ghost use Rattle.vs_rows.specs.declared.fault.RowFault.TheVariants.{NoMemory};
 use std::alloc::AllocError;
 
 /// Why a text is refused as a key or a value.
-#[derive(Clone, Copy, Debug, PartialEq, Eq)]
+#[derive(Clone, Copy, Debug)]
 pub enum RowFault {
-    /// The text is empty, longer than 64 bytes, `;` alone, or has a byte outside 0x21 to 0x7E.
+    /// The text is empty, longer than a key or a value may be, `;` alone, or has a byte outside 0x21
+    /// to 0x7E.
     BadText,
     NoMemory,
 }

@@ -1,18 +1,18 @@
 //! Keys.
 
 ghost use Rattle.std.specs.Prelude.{◌≡◌, List, ℕ, IfOk, IfErr};
-ghost use Rattle.vs_rows.specs.Names.{IsName};
+ghost use Rattle.vs_rows.specs.Names.{IsKey};
 ghost use Rattle.vs_rows.specs.Faults.{IsCauseOf};
 
 use crate::fault::RowFault;
-use crate::name::is_name;
+use crate::name::{LONGEST_KEY, is_name};
 use std::alloc::Global;
 use std::cmp::Ordering;
 use std::marker::Model;
 use vs_base::NoMemory;
 
 /// The key of a row: 1 to 64 visible characters, and not the mark `;` alone.
-#[derive(Debug, Drop)]
+#[derive(Drop)]
 pub struct Key {
     bytes: Vec<u8>,
 }
@@ -22,15 +22,15 @@ impl Model for Key {
 
     ghost view = { λ k. k.bytes.items };
 
-    ghost invariant = { λ k. IsName k.bytes.items };
+    ghost invariant = { λ k. IsKey k.bytes.items };
 }
 
 impl Key {
     pub fn new(alloc: Global, bytes: &[u8]) -> Result<Key, RowFault>
-        ensures ok { IfOk result (λ k. (k ≡ bytes.now) × IsName bytes.now) }
-        ensures err { IfErr result (λ fault. IsCauseOf fault bytes.now) }
+        ensures ok { IfOk result (λ k. (k ≡ bytes.now) × IsKey bytes.now) }
+        ensures err { IfErr result (λ fault. IsCauseOf IsKey fault bytes.now) }
     {
-        if !is_name(bytes) {
+        if !is_name(bytes, LONGEST_KEY) {
             return Err(RowFault::BadText);
         }
         let bytes = Vec::from_slice(alloc, bytes)?;
@@ -39,7 +39,7 @@ impl Key {
 
     pub fn as_bytes(&self) -> &[u8]
         ensures value { result.now ≡ self.now }
-        ensures name { IsName self.now }
+        ensures name { IsKey self.now }
     {
         &self.bytes
     }

@@ -19,6 +19,7 @@ pub use answer::{Answer, Answers, copy_answers};
 pub use changes::Changes;
 pub use fault::RowFault;
 pub use key::Key;
+pub use name::{LONGEST_KEY, LONGEST_VALUE};
 pub use op::Op;
 pub use ops::Ops;
 pub use page::Page;

@@ -3,15 +3,18 @@
 ghost use Rattle.std.specs.Prelude.{IsTrue, ◌↔◌};
 ghost use Rattle.vs_rows.specs.Names.{IsName};
 
-/// The greatest length of a key and of a value.
-const MAX_LEN: usize = 64;
+/// The most bytes of a key.
+pub const LONGEST_KEY: usize = 64;
 
-/// Whether a text may be a key or a value.
-pub(crate) fn is_name(bytes: &[u8]) -> bool
-    ensures { IsTrue result ↔ IsName bytes.now }
+/// The most bytes of a value.
+pub const LONGEST_VALUE: usize = 256;
+
+/// Whether a text may be a key or a value of at most so many bytes.
+pub(crate) fn is_name(bytes: &[u8], most: usize) -> bool
+    ensures { IsTrue result ↔ IsName most bytes.now }
 {
     !bytes.is_empty()
-        && bytes.len() <= MAX_LEN
+        && bytes.len() <= most
         && bytes.iter().all(|b| *b >= 0x21 && *b <= 0x7E)
         && bytes != b";".as_slice()
 }

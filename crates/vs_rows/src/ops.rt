@@ -9,7 +9,7 @@ use std::marker::Model;
 use vs_base::NoMemory;
 
 /// The operations of a call, 1 to 16. Contracts see them, and the number of free places.
-#[derive(Debug, Drop)]
+#[derive(Drop)]
 pub struct Ops {
     ops: Vec<Op>,
 }

@@ -12,7 +12,7 @@ use vs_base::{Items, NoMemory};
 
 /// Pairs of a key and a value that rise by key in byte order, at most 1,000. Contracts see them,
 /// and the number of free places.
-#[derive(Debug, Drop)]
+#[derive(Drop)]
 pub struct Page {
     pairs: Items<(Key, Val)>,
 }

@@ -21,7 +21,7 @@ use std::marker::Model;
 use vs_base::{Items, NoMemory};
 
 /// The rows of a bucket: a map from keys to values in byte order of the keys, and room for more.
-#[derive(Debug, Drop)]
+#[derive(Drop)]
 pub struct Rows {
     rows: Vec<(Key, Val)>,
 }

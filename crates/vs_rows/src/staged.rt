@@ -9,7 +9,7 @@ use vs_base::NoMemory;
 
 /// What operations would change and answer. `Rows::stage` gives it, and `Rows::commit` makes the
 /// changes.
-#[derive(Debug, Drop)]
+#[derive(Drop)]
 pub struct Staged {
     pub changes: Changes,
     pub answers: Answers,

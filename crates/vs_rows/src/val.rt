@@ -1,17 +1,17 @@
 //! Values.
 
 ghost use Rattle.std.specs.Prelude.{◌≡◌, List, ℕ, IfOk, IfErr};
-ghost use Rattle.vs_rows.specs.Names.{IsName};
+ghost use Rattle.vs_rows.specs.Names.{IsValue};
 ghost use Rattle.vs_rows.specs.Faults.{IsCauseOf};
 
 use crate::fault::RowFault;
-use crate::name::is_name;
+use crate::name::{LONGEST_VALUE, is_name};
 use std::alloc::Global;
 use std::marker::Model;
 use vs_base::NoMemory;
 
-/// The value of a row: 1 to 64 visible characters, and not the mark `;` alone.
-#[derive(Debug, Drop)]
+/// The value of a row: 1 to 256 visible characters, and not the mark `;` alone.
+#[derive(Drop)]
 pub struct Val {
     bytes: Vec<u8>,
 }
@@ -21,15 +21,15 @@ impl Model for Val {
 
     ghost view = { λ v. v.bytes.items };
 
-    ghost invariant = { λ v. IsName v.bytes.items };
+    ghost invariant = { λ v. IsValue v.bytes.items };
 }
 
 impl Val {
     pub fn new(alloc: Global, bytes: &[u8]) -> Result<Val, RowFault>
-        ensures ok { IfOk result (λ v. (v ≡ bytes.now) × IsName bytes.now) }
-        ensures err { IfErr result (λ fault. IsCauseOf fault bytes.now) }
+        ensures ok { IfOk result (λ v. (v ≡ bytes.now) × IsValue bytes.now) }
+        ensures err { IfErr result (λ fault. IsCauseOf IsValue fault bytes.now) }
     {
-        if !is_name(bytes) {
+        if !is_name(bytes, LONGEST_VALUE) {
             return Err(RowFault::BadText);
         }
         let bytes = Vec::from_slice(alloc, bytes)?;
@@ -38,7 +38,7 @@ impl Val {
 
     pub fn as_bytes(&self) -> &[u8]
         ensures value { result.now ≡ self.now }
-        ensures name { IsName self.now }
+        ensures name { IsValue self.now }
     {
         &self.bytes
     }

@@ -13,7 +13,7 @@ use Rattle.vs_script.specs.declared.op_word.OpWord.{OpWord}
 use Rattle.vs_script.specs.declared.op_word.OpWord.TheVariants.{Get, Put, Insert, Delete, Swap, Count, Scan}
 use Rattle.vs_script.specs.Lawful.{IsReading, IsShortScan, IsAllowedIn}
 use Rattle.vs_script.specs.Operations.{is_ro, is_write, op_word, op_word_at, op_of, after_op, ops_at}
-use Rattle.vs_script.specs.Words.{◌>>=◌, ◌>>◌, or_bad, bad_if, word_at, name_at, number_to}
+use Rattle.vs_script.specs.Words.{◌>>=◌, ◌>>◌, or_bad, bad_if, Read, word_at, key_at, value_at, number_to}
 use Rattle.vs_script.proofs.Steps.{step, passed}
 use Rattle.vs_script.proofs.Ranges.{number_range}
 
@@ -29,37 +29,37 @@ made name o left x lawful e =
     let same : (o, left) ≡ x = cc in
     subst (λ (y : Op × Left). IsLawfulOp name y.0) same lawful
 
--- an operation of a key, of a key and a value, of a key and two values
-of_key : (name : OpWord) (make : List ℕ → Op) (words : Left) (x : Op × Left) → ((k : List ℕ) → IsLawfulOp name (make k))
-    → (name_at words >>= (λ key. Ok (make key.0, key.1))) ≡ Ok x → IsLawfulOp name x.0
-of_key name make words x lawful e =
-    let (key, _, last) = step (name_at words) (λ key. Ok (make key.0, key.1)) x e in
+-- an operation of one word, of two, of three
+of_one : (name : OpWord) (read : Left → Read (List ℕ)) (make : List ℕ → Op) (words : Left) (x : Op × Left) → ((k : List ℕ) → IsLawfulOp name (make k))
+    → (read words >>= (λ key. Ok (make key.0, key.1))) ≡ Ok x → IsLawfulOp name x.0
+of_one name read make words x lawful e =
+    let (key, _, last) = step (read words) (λ key. Ok (make key.0, key.1)) x e in
     made name (make key.0) key.1 x (lawful key.0) last
 
-of_value : (name : OpWord) (make : List ℕ → List ℕ → Op) (words : Left) (x : Op × Left) → ((k v : List ℕ) → IsLawfulOp name (make k v))
-    → (name_at words >>= (λ key. name_at key.1 >>= (λ value. Ok (make key.0 value.0, value.1)))) ≡ Ok x → IsLawfulOp name x.0
-of_value name make words x lawful e =
-    let (key, _, more) = step (name_at words) (λ key. name_at key.1 >>= (λ value. Ok (make key.0 value.0, value.1))) x e in
-    of_key name (make key.0) key.1 x (lawful key.0) more
+of_two : (name : OpWord) (read : Left → Read (List ℕ)) (make : List ℕ → List ℕ → Op) (words : Left) (x : Op × Left) → ((k v : List ℕ) → IsLawfulOp name (make k v))
+    → (read words >>= (λ key. value_at key.1 >>= (λ value. Ok (make key.0 value.0, value.1)))) ≡ Ok x → IsLawfulOp name x.0
+of_two name read make words x lawful e =
+    let (key, _, more) = step (read words) (λ key. value_at key.1 >>= (λ value. Ok (make key.0 value.0, value.1))) x e in
+    of_one name value_at (make key.0) key.1 x (lawful key.0) more
 
-of_values : (name : OpWord) (make : List ℕ → List ℕ → List ℕ → Op) (words : Left) (x : Op × Left) → ((k v w : List ℕ) → IsLawfulOp name (make k v w))
-    → (name_at words >>= (λ key. name_at key.1 >>= (λ old. name_at old.1 >>= (λ new. Ok (make key.0 old.0 new.0, new.1))))) ≡ Ok x → IsLawfulOp name x.0
-of_values name make words x lawful e =
-    let (key, _, more) = step (name_at words) (λ key. name_at key.1 >>= (λ old. name_at old.1 >>= (λ new. Ok (make key.0 old.0 new.0, new.1)))) x e in
-    of_value name (make key.0) key.1 x (lawful key.0) more
+of_three : (name : OpWord) (make : List ℕ → List ℕ → List ℕ → Op) (words : Left) (x : Op × Left) → ((k v w : List ℕ) → IsLawfulOp name (make k v w))
+    → (key_at words >>= (λ key. value_at key.1 >>= (λ old. value_at old.1 >>= (λ new. Ok (make key.0 old.0 new.0, new.1))))) ≡ Ok x → IsLawfulOp name x.0
+of_three name make words x lawful e =
+    let (key, _, more) = step (key_at words) (λ key. value_at key.1 >>= (λ old. value_at old.1 >>= (λ new. Ok (make key.0 old.0 new.0, new.1)))) x e in
+    of_two name value_at (make key.0) key.1 x (lawful key.0) more
 
 of_scan : (words : Left) (x : Op × Left) → op_of Scan words ≡ Ok x → IsLawfulOp Scan x.0
 of_scan words x e =
-    let (key, _, more) = step (name_at words) (λ key. number_to 100 BadScan key.1 >>= (λ count. Ok (op.Scan key.0 count.0, count.1))) x e in
+    let (key, _, more) = step (key_at words) (λ key. number_to 100 BadScan key.1 >>= (λ count. Ok (op.Scan key.0 count.0, count.1))) x e in
     let (count, is, last) = step (number_to 100 BadScan key.1) (λ count. Ok (op.Scan key.0 count.0, count.1)) x more in
     made Scan (op.Scan key.0 count.0) count.1 x ((λ _. tt), number_range 100 BadScan key.1 count is) last
 
 op_lawful : (name : OpWord) (words : Left) (x : Op × Left) → op_of name words ≡ Ok x → IsLawfulOp name x.0
-op_lawful Get words x e = of_key Get op.Get words x (λ k. ((λ _. tt), tt)) e
-op_lawful Put words x e = of_value Put op.Put words x (λ k v. ((λ none. cc), tt)) e
-op_lawful Insert words x e = of_value Insert op.Insert words x (λ k v. ((λ none. cc), tt)) e
-op_lawful Delete words x e = of_key Delete op.Delete words x (λ k. ((λ none. cc), tt)) e
-op_lawful Swap words x e = of_values Swap op.Swap words x (λ k v w. ((λ none. cc), tt)) e
+op_lawful Get words x e = of_one Get key_at op.Get words x (λ k. ((λ _. tt), tt)) e
+op_lawful Put words x e = of_two Put key_at op.Put words x (λ k v. ((λ none. cc), tt)) e
+op_lawful Insert words x e = of_two Insert key_at op.Insert words x (λ k v. ((λ none. cc), tt)) e
+op_lawful Delete words x e = of_one Delete key_at op.Delete words x (λ k. ((λ none. cc), tt)) e
+op_lawful Swap words x e = of_three Swap op.Swap words x (λ k v w. ((λ none. cc), tt)) e
 op_lawful Count words x e = made Count op.Count words x ((λ _. tt), tt) e
 op_lawful Scan words x e = of_scan words x e
 

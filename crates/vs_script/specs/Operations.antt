@@ -9,7 +9,7 @@ use Rattle.vs_script.specs.declared.fault.ScriptKind.{ScriptKind}
 use Rattle.vs_script.specs.declared.fault.ScriptKind.TheVariants.{BadWord, WriteInRo, BadScan, TooManyOps}
 use Rattle.vs_script.specs.declared.op_word.OpWord.{OpWord}
 use Rattle.vs_script.specs.declared.op_word.OpWord.TheVariants.{Get, Put, Insert, Delete, Swap, Count, Scan}
-use Rattle.vs_script.specs.Words.{◌>>=◌, ◌>>◌, or_bad, bad_if, Read, word_at, name_at, number_to}
+use Rattle.vs_script.specs.Words.{◌>>=◌, ◌>>◌, or_bad, bad_if, Read, word_at, key_at, value_at, number_to}
 
 -- the operation that a word names
 abbrev pub op_word : List ℕ → Option OpWord
@@ -45,27 +45,27 @@ op_word_at mode words = do
 -- the operation of this word, whose keys, values and numbers follow
 abbrev pub op_of : OpWord → List (List ℕ) → Read Op
 op_of Get words = do
-  key ← name_at words
+  key ← key_at words
   Ok (op.Get key.0, key.1)
 op_of Put words = do
-  key ← name_at words
-  value ← name_at key.1
+  key ← key_at words
+  value ← value_at key.1
   Ok (op.Put key.0 value.0, value.1)
 op_of Insert words = do
-  key ← name_at words
-  value ← name_at key.1
+  key ← key_at words
+  value ← value_at key.1
   Ok (op.Insert key.0 value.0, value.1)
 op_of Delete words = do
-  key ← name_at words
+  key ← key_at words
   Ok (op.Delete key.0, key.1)
 op_of Swap words = do
-  key ← name_at words
-  old ← name_at key.1
-  new ← name_at old.1
+  key ← key_at words
+  old ← value_at key.1
+  new ← value_at old.1
   Ok (op.Swap key.0 old.0 new.0, new.1)
 op_of Count words = Ok (op.Count, words)
 op_of Scan words = do
-  key ← name_at words
+  key ← key_at words
   count ← number_to 100 BadScan key.1
   Ok (op.Scan key.0 count.0, count.1)
 

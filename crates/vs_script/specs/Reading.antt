@@ -1,9 +1,8 @@
 -- The script that a text gives, or its first bad line with its first fault.
-use Rattle.std.specs.Prelude.{ℕ, ◌+◌, nat_le, not, if◌then◌else◌, List, [], ◌∷◌, length, Option, Some, None, Result, Ok, Err}
+use Rattle.std.specs.Prelude.{ℕ, ◌+◌, not, if◌then◌else◌, List, [], ◌∷◌, Option, Some, None, Result, Ok, Err}
 use Rattle.std.specs.List.{list_all}
 use Rattle.std.specs.Str.Lines.{lines}
-use Rattle.vs_text.specs.Lines.{is_text_byte, words_in}
-use Rattle.vs_text.specs.declared.TheConstants.{LONGEST_WORD}
+use Rattle.vs_text.specs.Lines.{has_short_words, is_text_byte, words_in}
 use Rattle.vs_script.specs.declared.fault.ScriptFault.{ScriptFault}
 use Rattle.vs_script.specs.declared.fault.ScriptFault.TheVariants.{Bad}
 use Rattle.vs_script.specs.declared.fault.ScriptKind.{ScriptKind}
@@ -18,7 +17,7 @@ use Rattle.vs_script.specs.Lines.{is_skipped, header_of, call_of, command_of}
 abbrev pub line_words : List ℕ → Result (List (List ℕ)) ScriptKind
 line_words line = do
   bad_if (not (list_all is_text_byte line)) BadByte
-  bad_if (not (list_all (λ word. nat_le (length word) LONGEST_WORD) (words_in line))) LongWord
+  bad_if (not (has_short_words line)) LongWord
   Ok (words_in line)
 
 -- what a line of this number gives

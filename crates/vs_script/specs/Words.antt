@@ -3,6 +3,7 @@ use Rattle.std.specs.Prelude.{ℕ, Bool, ◌&&◌, not, nat_le, nat_lt, min, if�
 use Rattle.std.specs.List.{list_all}
 use Rattle.std.specs.Str.{bytes_eq, all_ascii_digits}
 use Rattle.std.specs.Str.Parse.{digits_value}
+use Rattle.vs_rows.specs.Names.{key_limit, value_limit}
 use Rattle.vs_script.specs.declared.fault.ScriptKind.{ScriptKind}
 use Rattle.vs_script.specs.declared.fault.ScriptKind.TheVariants.{BadWord, BadNumber, BadBucket, BadSet, BadClient}
 
@@ -38,18 +39,23 @@ abbrev pub end_at : List (List ℕ) → Result (Unit {0}) ScriptKind
 end_at [] = Ok tt
 end_at (word ∷ words) = Err BadWord
 
--- the word may be a key or a value: `IsName` as a test
-abbrev pub is_name : List ℕ → Bool
-is_name word =
-    nat_lt 0 (length word) && nat_le (length word) 64
+-- the word may be a key or a value of at most so many bytes: `IsName` as a test
+abbrev pub is_name : ℕ → List ℕ → Bool
+is_name most word =
+    nat_lt 0 (length word) && nat_le (length word) most
     && list_all (λ b. nat_le 0x21 b && nat_le b 0x7E) word && not (bytes_eq word (59 ∷ []))
 
--- a key or a value
-abbrev pub name_at : List (List ℕ) → Read (List ℕ)
-name_at words = do
+abbrev pub name_at : ℕ → List (List ℕ) → Read (List ℕ)
+name_at most words = do
   word ← word_at words
-  bad_if (not (is_name word.0)) BadWord
+  bad_if (not (is_name most word.0)) BadWord
   Ok word
+
+abbrev pub key_at : List (List ℕ) → Read (List ℕ)
+key_at words = name_at key_limit words
+
+abbrev pub value_at : List (List ℕ) → Read (List ℕ)
+value_at words = name_at value_limit words
 
 -- the number that 1 to 9 decimal digits write
 abbrev pub short_number : List ℕ → Option ℕ

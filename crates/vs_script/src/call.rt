@@ -15,7 +15,7 @@ use vs_base::{BucketId, Items, Mode, NoMemory};
 use vs_rows::Ops;
 
 /// A call of a client: operations on one bucket.
-#[derive(Debug, Drop)]
+#[derive(Drop)]
 pub struct Call {
     pub mode: Mode,
     pub bucket: BucketId,

@@ -12,7 +12,7 @@ use std::alloc::Global;
 use vs_base::{BucketId, ClientNo, Items, NoMemory, SetNo};
 
 /// A command of an operator.
-#[derive(Clone, Copy, Debug, PartialEq, Eq)]
+#[derive(Clone, Copy)]
 pub enum Command {
     /// Moves a bucket from a set to another, as `vshard.storage.bucket_send`.
     Send(BucketId, SetNo, SetNo),

@@ -9,7 +9,7 @@ use vs_base::NoMemory;
 pub enum ScriptKind {
     /// It has a byte that may not stand in a script.
     BadByte,
-    /// It has a word of more than 64 bytes.
+    /// It has a word of more than 256 bytes.
     LongWord,
     /// It is the first that isn't skipped, and neither `client` nor `operator` alone.
     BadHeader,

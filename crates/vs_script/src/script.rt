@@ -7,7 +7,7 @@ use crate::command::{Commands, copy_commands};
 use vs_base::NoMemory;
 
 /// What one text tells: the calls of a client, or the commands of an operator.
-#[derive(Debug, Drop)]
+#[derive(Drop)]
 pub enum Script {
     Client(Calls),
     Operator(Commands),

@@ -15,7 +15,7 @@ pub type ClientCalls = Items<Calls>;
 pub type OperatorCommands = Items<Commands>;
 
 /// The scripts of one run, by the numbers of their clients and operators.
-#[derive(Debug, Drop)]
+#[derive(Drop)]
 pub struct Scripts {
     pub clients: ClientCalls,
     pub operators: OperatorCommands,

@@ -3,7 +3,7 @@
 ghost use Rattle.std.specs.Prelude.{◌≡◌, ◌≤◌, [], ◌∷◌, MatchOption};
 ghost use Rattle.vs_text.specs.Lines.{words_in};
 ghost use Rattle.vs_script.specs.Given.{Takes, MayTake};
-ghost use Rattle.vs_script.specs.Words.{word_at, end_at, name_at, number_at, number_to, bucket_at, set_at, client_at};
+ghost use Rattle.vs_script.specs.Words.{word_at, end_at, key_at, value_at, number_at, number_to, bucket_at, set_at, client_at};
 
 use crate::fault::ScriptKind;
 use crate::line_fault::LineFault;
@@ -61,7 +61,7 @@ impl<'a> Words<'a> {
     }
 
     pub(crate) fn key(&mut self, alloc: Global) -> Result<Key, LineFault>
-        ensures { MayTake (λ x. x) result self.new (name_at self.old) }
+        ensures { MayTake (λ x. x) result self.new (key_at self.old) }
     {
         let word = self.word()?;
         match Key::new(alloc, word) {
@@ -72,7 +72,7 @@ impl<'a> Words<'a> {
     }
 
     pub(crate) fn value(&mut self, alloc: Global) -> Result<Val, LineFault>
-        ensures { MayTake (λ x. x) result self.new (name_at self.old) }
+        ensures { MayTake (λ x. x) result self.new (value_at self.old) }
     {
         let word = self.word()?;
         match Val::new(alloc, word) {

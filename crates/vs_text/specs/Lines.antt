@@ -3,7 +3,6 @@ use Rattle.std.specs.Prelude.{ℕ, ◌≡◌, ◌+◌, Bool, ◌==◌, ◌&&◌,
 use Rattle.std.specs.Option.{option_or}
 use Rattle.std.specs.List.{list_all, slice_split}
 use Rattle.std.specs.Str.Lines.{lines}
-use Rattle.vs_text.specs.declared.TheConstants.{LONGEST_WORD}
 use Rattle.vs_text.specs.declared.fault.TextFault.{TextFault}
 use Rattle.vs_text.specs.declared.fault.TextFault.TheVariants.{BadByte, LongWord, NoMemory}
 use Rattle.vs_text.specs.declared.lines.Line.{Line}
@@ -20,13 +19,20 @@ is_text_byte byte = (byte == 9) || (nat_le 32 byte && nat_le byte 126)
 abbrev pub words_in : List ℕ → List (List ℕ)
 words_in line = filter (λ word. not (length word == 0)) (slice_split is_blank line)
 
+-- the most bytes of a word
+abbrev pub word_limit : ℕ
+word_limit = 256
+
+-- whether no word of a line is longer
+abbrev pub has_short_words : List ℕ → Bool
+has_short_words line = list_all (λ word. nat_le (length word) word_limit) (words_in line)
+
 -- the fault of a line of this number, if it has one: a byte that may not stand there, or else
 -- a long word
 abbrev pub line_fault : ℕ → List ℕ → Option TextFault
 line_fault number line =
     if not (list_all is_text_byte line) then Some (BadByte number)
-    else (if not (list_all (λ word. nat_le (length word) LONGEST_WORD) (words_in line))
-    then Some (LongWord number) else None)
+    else (if not (has_short_words line) then Some (LongWord number) else None)
 
 -- the fault of the first of these lines that has one, the first being of this number
 abbrev pub first_fault : ℕ → List (List ℕ) → Option TextFault

@@ -14,4 +14,4 @@ pub use split::{next_line, split_once};
 pub use words::next_word;
 
 /// The most bytes of a word.
-pub const LONGEST_WORD: usize = 64;
+pub const LONGEST_WORD: usize = 256;

@@ -1,9 +1,9 @@
 //! Texts as numbered lines of words.
 
-ghost use Rattle.std.specs.Prelude.{◌≡◌, ◌∷◌, [], None, Some, map, not, nat_le, length, IfOk, IfErr, MatchOption, MatchResult};
+ghost use Rattle.std.specs.Prelude.{◌≡◌, ◌∷◌, [], None, Some, map, IfOk, IfErr, MatchOption, MatchResult};
 ghost use Rattle.std.specs.List.{list_all};
 ghost use Rattle.std.specs.Str.Lines.{lines, strip_carriage_return};
-ghost use Rattle.vs_text.specs.Lines.{is_text_byte, words_in, line_fault, first_fault, IsFirstFault, numbered, seen};
+ghost use Rattle.vs_text.specs.Lines.{is_text_byte, has_short_words, words_in, line_fault, first_fault, IsFirstFault, numbered, seen};
 
 use crate::LONGEST_WORD;
 use crate::fault::TextFault;
@@ -19,7 +19,7 @@ pub type Word = Items<u8>;
 pub type Words = Items<Word>;
 
 /// A line of a text.
-#[derive(Debug, Drop)]
+#[derive(Drop)]
 pub struct Line {
     /// Its number, from 1.
     pub number: u32,
@@ -69,7 +69,7 @@ fn is_text(line: &[u8]) -> bool
 }
 
 fn has_short_words(line: &[u8]) -> bool
-    ensures { result ≡ list_all (λ word. nat_le (length word) LONGEST_WORD) (words_in line.now) }
+    ensures { result ≡ has_short_words line.now }
 {
     if line.len() <= LONGEST_WORD {
         return true;
