@@ -1,7 +1,7 @@
 //! The calls of a disk in memory.
 
 /// A call that a disk in memory has had.
-#[derive(Debug, Drop)]
+#[derive(Drop)]
 pub enum MemCall {
     /// One that wrote nothing, whether it failed or not.
     Quiet,
@@ -12,7 +12,7 @@ pub enum MemCall {
 }
 
 /// A call that a disk in memory is to fail.
-#[derive(Clone, Copy, Debug, PartialEq, Eq)]
+#[derive(Clone, Copy)]
 pub struct FailingCall {
     /// How many calls go before it.
     pub call: u64,

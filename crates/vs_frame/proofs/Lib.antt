@@ -1,8 +1,14 @@
+pub mod Alongs
 pub mod Append
+pub mod Begins
 pub mod Entries
 pub mod Gates
 pub mod Heads
 pub mod JournalOf
-pub mod Journals
+pub mod Looks
+pub mod Made
+pub mod Pieces
+pub mod Places
 pub mod Reading
+pub mod Scans
 pub mod Synced

@@ -1,9 +1,10 @@
-pub use Rattle.vs_base.specs.Listed
 pub use Rattle.vs_disk.specs.Model
 pub use Rattle.vs_disk.specs.Told
+pub mod Ahead
 pub mod Frame
 pub mod Gate
 pub mod Head
 pub mod Journal
 pub mod Reading
+pub mod Scan
 pub mod Unwritten

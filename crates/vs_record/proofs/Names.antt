@@ -27,14 +27,14 @@ visible_decides bytes = Decides-by_and (λ b. is_between 0x21 0x7E b) (λ b. (0x
 mark_decides : (bytes : List ℕ) → Decides (pointwise nat_eq bytes (59 ∷ [])) (bytes ≡ 59 ∷ [])
 mark_decides bytes = slice_eq-Decides Decides-eqb bytes (59 ∷ []) (pointwise nat_eq bytes (59 ∷ [])) refl
 
-pub name_decides : (bytes : List ℕ) → Decides (is_name bytes) (IsName bytes)
-name_decides bytes =
-    let size = is_between 1 64 (length bytes) in
+pub name_decides : (most : ℕ) (bytes : List ℕ) → Decides (is_name most bytes) (IsName most bytes)
+name_decides most bytes =
+    let size = is_between 1 most (length bytes) in
     let visible = list_all (λ b. is_between 0x21 0x7E b) bytes in
     let mark = pointwise nat_eq bytes (59 ∷ []) in
-    Decides-like (is_name bytes) (λ (is : (((1 ≤ length bytes) × (length bytes ≤ 64)) × All (λ b. (0x21 ≤ b) × (b ≤ 0x7E)) bytes) × (¬ (bytes ≡ 59 ∷ []))). record { some = omega (arith, is.0.0.0); short = is.0.0.1; visible = is.0.1; no_mark = is.1 })
-    (λ (is : IsName bytes). (((omega (arith, is.some), is.short), is.visible), is.no_mark))
-    (Decides-and (size && visible) (not mark) (Decides-and size visible (between_decides 1 64 (length bytes)) (visible_decides bytes)) (Decides-not mark (mark_decides bytes)))
+    Decides-like (is_name most bytes) (λ (is : (((1 ≤ length bytes) × (length bytes ≤ most)) × All (λ b. (0x21 ≤ b) × (b ≤ 0x7E)) bytes) × (¬ (bytes ≡ 59 ∷ []))). record { some = omega (arith, is.0.0.0); short = is.0.0.1; visible = is.0.1; no_mark = is.1 })
+    (λ (is : IsName most bytes). (((omega (arith, is.some), is.short), is.visible), is.no_mark))
+    (Decides-and (size && visible) (not mark) (Decides-and size visible (between_decides 1 most (length bytes)) (visible_decides bytes)) (Decides-not mark (mark_decides bytes)))
 
 lt_decides : (o : Ordering) → Decides (is_lt o) (o ≡ Less)
 lt_decides Less = (λ e. refl, λ h. refl)
@@ -46,15 +46,15 @@ above_decides [] key = (λ e. tt, λ h. refl)
 above_decides (row ∷ rows) key = Decides-and (is_lt (key_cmp row.0 key)) (is_above rows key) (lt_decides (key_cmp row.0 key)) (above_decides rows key)
 
 -- a test of a name, from what its making answered
-pub named : (bytes : List ℕ) → IsName bytes → is_name bytes ≡ true
-named bytes is = (name_decides bytes).1 is
+pub named : (most : ℕ) (bytes : List ℕ) → IsName most bytes → is_name most bytes ≡ true
+named most bytes is = (name_decides most bytes).1 is
 
 not_of : {P : Type 0} (t : Bool) → Decides t P → ¬ P → t ≡ false
 not_of true decides refuted = absurd (refuted (decides.0 refl))
 not_of false decides refuted = refl
 
-pub unnamed : (bytes : List ℕ) → ¬ (IsName bytes) → is_name bytes ≡ false
-unnamed bytes refuted = not_of (is_name bytes) (name_decides bytes) refuted
+pub unnamed : (most : ℕ) (bytes : List ℕ) → ¬ (IsName most bytes) → is_name most bytes ≡ false
+unnamed most bytes refuted = not_of (is_name most bytes) (name_decides most bytes) refuted
 
 pub not_above : (rows : RowMap) (key : List ℕ) → ¬ IsBelow rows key → is_above rows key ≡ false
 not_above rows key refuted = not_of (is_above rows key) (above_decides rows key) refuted

@@ -1,18 +1,20 @@
 -- The fields of a change: numbers of things, statuses, names and rows.
-use Rattle.std.proofs.Common.{◌≡◌, ◌⊎◌, inl, inr, ℕ, ◌^◌, ◌<◌, ◌≤◌, ◌==◌, nat_le, Bool, true, false, if◌then◌else◌, List, [], ◌∷◌, ◌++◌, length, take, drop, Some, None, refl, sym, ap, subst, ◌∙◌, arith}
+use Rattle.std.proofs.Common.{◌≡◌, ◌⊎◌, inl, inr, ℕ, ◌^◌, ◌<◌, ◌≤◌, ◌==◌, nat_le, Bool, true, false, if◌then◌else◌, List, [], ◌∷◌, ◌++◌, length, take, drop, Option, Some, None, refl, sym, ap, subst, ◌∙◌, append_assoc, arith}
 use Rattle.std.specs.Int.{w16, w32}
 use Rattle.std.proofs.lemmas.Bool.{eqb-true, false≢true}
 use Rattle.std.proofs.lemmas.Bool.Decides.{nat_tests}
 use Rattle.std.proofs.lemmas.List.{take_at, drop_at, take-append-drop, length-append, length-take}
 use Rattle.std.proofs.lemmas.Option.{cond_some, same_Some}
 use Rattle.vs_base.specs.Numbers.{IsBucketId, IsClientNo, IsSetNo}
-use Rattle.vs_rows.specs.Names.{IsName}
+use Rattle.vs_rows.specs.Names.{IsKey, key_limit, value_limit}
 use Rattle.vs_space.specs.declared.status.Status.{Status}
 use Rattle.vs_space.specs.declared.status.Status.TheVariants.{Active, Pinned, Sending, Receiving, Sent, Garbage}
-use Rattle.vs_record.specs.Body.{number_text, name_text, row_text, status_text, IsStatus, IsRow}
-use Rattle.vs_record.specs.Reading.{tested, byte_at, is_between, bucket_at, set_at, client_at, few_at, many_at, bare_status, set_status, status_by, status_at, is_name, text_at, name_at, row_at}
+use Rattle.vs_record.specs.Body.{number_text, key_text, value_text, row_text, status_text, IsStatus, IsValueIn, IsRow}
+use Rattle.vs_record.specs.Reading.{tested, byte_at, is_between, bucket_at, set_at, client_at, few_at, many_at, bare_status, set_status, status_by, status_at, is_name, text_behind, key_at, length_at, value_at, row_at, values_at}
+use Rattle.vs_record.specs.declared.version.Version.{Version}
+use Rattle.vs_record.specs.declared.version.Version.TheVariants.{One, Two}
 use Rattle.vs_record.proofs.Names.{le_decides, between_decides, name_decides}
-use Rattle.vs_record.proofs.Taken.{IsBytes, IsBytes-drop, IsBytes-rest, Takes, Reads, bound, pair_is, both_read, tested_read, byte_reads, number_reads, wide16, wide32, read_as}
+use Rattle.vs_record.proofs.Taken.{IsBytes, IsBytes-drop, IsBytes-rest, Takes, Takes-then, Reads, bound, pair_is, both_read, tested_read, byte_reads, number_reads, wide16, wide32, read_as}
 
 abbrev IsIn : ℕ → ℕ → ℕ → Type 0
 IsIn low high n = (low ≤ n) × (n ≤ high)
@@ -129,35 +131,56 @@ status_reads = record { takes = took; again = status_again }
         subst (λ (p : Status × List ℕ). Takes (tag ∷ other ∷ bytes) (status_text p.0) p.1 × IsStatus p.0) (λ i. (same.0 i, same.1 i))
         (record { parts = ap (λ (t : List ℕ). t ++ bytes) (sym told.0); rest_fits = IsBytes-rest other bytes (IsBytes-rest tag (other ∷ bytes) fits) }, told.1)
 
--- ---- names
+-- ---- keys and values
 
-text_reads : Reads name_text (λ text. length text < 256) text_at
-unfolding text_at
-text_reads = record { takes = took; again = reads_again }
+-- a text behind its length
+pub text_reads : {size_text : ℕ → List ℕ} {size_at : List ℕ → Option (ℕ × List ℕ)} (limit : ℕ) → Reads size_text (λ n. n < limit) size_at → Reads (λ text. size_text (length text) ++ text) (λ text. length text < limit) (λ bytes. text_behind (size_at bytes))
+text_reads {size_text} {size_at} limit sizes = record { takes = took; again = reads_again }
   where
-    took : (bytes text rest : List ℕ) → IsBytes bytes → text_at bytes ≡ Some (text, rest) → Takes bytes (name_text text) rest × (length text < 256)
-    took [] text rest fits e = absurd cc
-    took (size ∷ bytes) text rest fits e =
-        let g = cond_some (nat_le size (length bytes)) (take size bytes, drop size bytes) (text, rest) e in
-        let long : size ≤ length bytes = (le_decides size (length bytes)).0 g.0 in
-        let len : length (take size bytes) ≡ size = omega (arith, length-take size bytes) in
-        let behind = IsBytes-rest size bytes fits in
-        let whole : Takes (size ∷ bytes) (name_text (take size bytes)) (drop size bytes) = record {
-          parts = (λ i. sym len i ∷ sym (take-append-drop size bytes) i);
-          rest_fits = IsBytes-drop size bytes behind;
-        } in
-        let short : length (take size bytes) < 256 = omega (arith, len, fits 0) in
-        subst (λ (p : List ℕ × List ℕ). Takes (size ∷ bytes) (name_text p.0) p.1 × (length p.0 < 256)) g.1 (whole, short)
+    by : (o : Option (ℕ × List ℕ)) (bytes text rest : List ℕ) → IsBytes bytes → size_at bytes ≡ o → text_behind o ≡ Some (text, rest) → Takes bytes (size_text (length text) ++ text) rest × (length text < limit)
+    by None bytes text rest fits is e = absurd cc
+    by (Some size) bytes text rest fits is e =
+        let n = size.0 in
+        let more = size.1 in
+        let g = cond_some (nat_le n (length more)) (take n more, drop n more) (text, rest) e in
+        let long : n ≤ length more = (le_decides n (length more)).0 g.0 in
+        let len : length (take n more) ≡ n = omega (arith, length-take n more) in
+        let number = sizes.takes bytes n more fits is in
+        let behind : Takes more (take n more) (drop n more) = record { parts = sym (take-append-drop n more); rest_fits = IsBytes-drop n more number.0.rest_fits } in
+        let both = Takes-then bytes (size_text n) more (take n more) (drop n more) number.0 behind in
+        let whole : Takes bytes (size_text (length (take n more)) ++ take n more) (drop n more) = subst (λ (k : ℕ). Takes bytes (size_text k ++ take n more) (drop n more)) (sym len) both in
+        let short : length (take n more) < limit = omega (arith, len, number.1) in
+        subst (λ (p : List ℕ × List ℕ). Takes bytes (size_text (length p.0) ++ p.0) p.1 × (length p.0 < limit)) g.1 (whole, short)
 
-    reads_again : (text rest : List ℕ) → length text < 256 → text_at (name_text text ++ rest) ≡ Some (text, rest)
+    took : (bytes text rest : List ℕ) → IsBytes bytes → text_behind (size_at bytes) ≡ Some (text, rest) → Takes bytes (size_text (length text) ++ text) rest × (length text < limit)
+    took bytes text rest fits e = by (size_at bytes) bytes text rest fits refl e
+
+    reads_again : (text rest : List ℕ) → length text < limit → text_behind (size_at ((size_text (length text) ++ text) ++ rest)) ≡ Some (text, rest)
     reads_again text rest lt =
         let long : nat_le (length text) (length (text ++ rest)) ≡ true = (le_decides (length text) (length (text ++ rest))).1 (omega (arith, length-append text rest)) in
-        rw (long, take_at text rest (length text) refl, drop_at text rest (length text) refl) refl
+        ap (λ (b : List ℕ). text_behind (size_at b)) (append_assoc (size_text (length text)) text rest)
+        ∙ ap text_behind (sizes.again (length text) (text ++ rest) lt)
+        ∙ rw (long, take_at text rest (length text) refl, drop_at text rest (length text) refl) refl
 
-pub name_reads : Reads name_text IsName name_at
-unfolding name_at
-name_reads = read_as IsName (λ n is. is.1) (λ n is. (omega (arith, is.short), is)) (tested_read text_reads is_name IsName name_decides)
+pub key_reads : Reads key_text IsKey key_at
+unfolding key_at
+key_reads = read_as IsKey (λ key is. is.1) (λ key is. (omega (arith, is.short), is)) (tested_read (text_reads 256 byte_reads) (is_name key_limit) IsKey (name_decides key_limit))
 
-pub row_reads : Reads row_text IsRow row_at
+pub value_reads : (v : Version) → Reads (value_text v) (IsValueIn v) (value_at v)
+unfolding value_at length_at
+value_reads One = read_as (IsValueIn One) (λ value is. is.1) (λ value is. (omega (arith, is.short), is)) (tested_read (text_reads 256 byte_reads) (is_name 64) (IsValueIn One) (name_decides 64))
+value_reads Two = read_as (IsValueIn Two) (λ value is. is.1) (λ value is. (omega (arith, is.short), is)) (tested_read (text_reads (2 ^ 16) (number_reads w16 (2 ^ 16) wide16)) (is_name value_limit) (IsValueIn Two) (name_decides value_limit))
+
+pub row_reads : (v : Version) → Reads (row_text v) (IsRow v) (row_at v)
 unfolding row_at
-row_reads = both_read name_reads name_reads
+row_reads v = both_read key_reads (value_reads v)
+
+abbrev pub values_text : Version → List ℕ × List ℕ → List ℕ
+values_text v p = value_text v p.0 ++ value_text v p.1
+
+abbrev pub AreValues : Version → List ℕ × List ℕ → Type 0
+AreValues v p = IsValueIn v p.0 × IsValueIn v p.1
+
+pub values_read : (v : Version) → Reads (values_text v) (AreValues v) (values_at v)
+unfolding values_at
+values_read v = both_read (value_reads v) (value_reads v)

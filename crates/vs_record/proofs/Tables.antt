@@ -1,5 +1,5 @@
 -- Places for the rows of buckets.
-use Rattle.std.proofs.Common.{◌≡◌, ℕ, zero, suc, ◌+◌, ◌≤◌, List, [], ◌∷◌, ◌++◌, length, get_or, Option, None, replicate, refl, arith}
+use Rattle.std.proofs.Common.{◌≡◌, ℕ, zero, suc, ◌+◌, [], ◌∷◌, ◌++◌, length, get_or, Option, None, replicate, refl, arith}
 use Rattle.std.proofs.lemmas.List.{get_or_past, replicate-append-replicate}
 use Rattle.vs_base.specs.Numbers.{IsBucketId}
 use Rattle.vs_record.specs.RowTable.{Places, rows_at, row_map_at, AreOfBuckets}

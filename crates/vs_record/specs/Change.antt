@@ -1,5 +1,5 @@
 -- Changes of a set's entries and rows, as plain data.
-use Rattle.std.specs.Prelude.{ℕ, List}
+use Rattle.std.specs.Prelude.{ℕ, List, Option}
 use Rattle.vs_base.specs.declared.numbers.CallId.{CallId}
 use Rattle.vs_rows.specs.RowMap.{RowMap}
 use Rattle.vs_rows.specs.declared.op.Op.{Op}
@@ -20,6 +20,10 @@ change (coded.RowsPage b x page) = AddRows b x page.items
 change (coded.Write id b ops) = Write id b ops.items
 change (coded.Wipe b n) = Wipe b n
 change (coded.Forget b) = Forget b
+
+-- the same behind the number that a journal gives it, if it gives one
+abbrev pub entry_of : Option ℕ × code.Change → Option ℕ × Change
+entry_of entry = (entry.0, change entry.1)
 
 abbrev pub bucket_of : Change → ℕ
 bucket_of (SetStatus b st) = b

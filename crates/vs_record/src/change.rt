@@ -7,7 +7,7 @@ use vs_rows::{Ops, Page};
 use vs_space::Status;
 
 /// A change of a set's entries and rows, as its journal has it.
-#[derive(Debug, Drop)]
+#[derive(Drop)]
 pub enum Change {
     /// The bucket has this status.
     Status(BucketId, Status),

@@ -1,11 +1,12 @@
 //! The fields of a body: each is read from the front, and given with the bytes behind it.
 
-ghost use Rattle.std.specs.Prelude.{◌≡◌};
-ghost use Rattle.std.specs.Int.{w16, w32};
+ghost use Rattle.std.specs.Prelude.{◌≡◌, Some};
+ghost use Rattle.std.specs.Int.{w16, w32, w64};
 ghost use Rattle.std.specs.Option.{option_map};
-ghost use Rattle.vs_record.specs.Reading.{Gives, byte_at, number_at, bucket_at, set_at, client_at, text_at, name_at, row_at, few_at, many_at, status_by, status_at};
+ghost use Rattle.vs_record.specs.Reading.{Gives, byte_at, number_at, bucket_at, set_at, client_at, text_behind, key_at, length_at, value_at, row_at, values_at, few_at, many_at, status_by, status_at};
 
 use crate::fault::RecordFault;
+use crate::version::Version;
 use std::alloc::Global;
 use vs_base::{BucketId, ClientNo, SetNo};
 use vs_rows::{Key, RowFault, Val};
@@ -45,6 +46,19 @@ pub(crate) fn four_at(bytes: &[u8]) -> Option<(u32, &[u8])>
     ))
 }
 
+#[tactic(auto, unfolding(crate::specs::Reading::number_at))]
+pub(crate) fn eight_at(bytes: &[u8]) -> Option<(u64, &[u8])>
+    ensures { option_map (λ x. (x.0, x.1.now)) result ≡ number_at w64 bytes.now }
+{
+    if bytes.len() < 8 {
+        return None;
+    }
+    let (front, rest) = bytes.split_at(8);
+    let mut eight = [0; 8];
+    eight.copy_from_slice(front);
+    Some((u64::from_le_bytes(eight), rest))
+}
+
 #[tactic(auto, unfolding(crate::specs::Reading::bucket_at))]
 pub(crate) fn bucket_at(bytes: &[u8]) -> Option<(BucketId, &[u8])>
     ensures { option_map (λ x. (x.0, x.1.now)) result ≡ bucket_at bytes.now }
@@ -67,25 +81,24 @@ pub(crate) fn set_at(bytes: &[u8]) -> Option<(SetNo, &[u8])>
     }
 }
 
-#[tactic(auto, unfolding(crate::specs::Reading::text_at))]
-fn text_at(bytes: &[u8]) -> Result<(&[u8], &[u8]), RecordFault>
-    ensures { Gives (λ x. (x.0.now, x.1.now)) result (text_at bytes.now) }
+// As many bytes as the number says that stood in front of them.
+fn text_behind(size: usize, bytes: &[u8]) -> Result<(&[u8], &[u8]), RecordFault>
+    ensures { Gives (λ x. (x.0.now, x.1.now)) result (text_behind (Some (size, bytes.now))) }
+{
+    if bytes.len() < size {
+        return Err(RecordFault::BadBody);
+    }
+    Ok(bytes.split_at(size))
+}
+
+#[tactic(auto, using(crate::proofs::Names::named, crate::proofs::Names::unnamed), unfolding(crate::specs::Reading::key_at))]
+pub(crate) fn key_at(alloc: Global, bytes: &[u8]) -> Result<(Key, &[u8]), RecordFault>
+    ensures { Gives (λ x. (x.0, x.1.now)) result (key_at bytes.now) }
 {
     let Some((size, rest)) = byte_at(bytes) else {
         return Err(RecordFault::BadBody);
     };
-    let size = usize::from(size);
-    if rest.len() < size {
-        return Err(RecordFault::BadBody);
-    }
-    Ok(rest.split_at(size))
-}
-
-#[tactic(auto, using(crate::proofs::Names::named, crate::proofs::Names::unnamed), unfolding(crate::specs::Reading::name_at))]
-pub(crate) fn key_at(alloc: Global, bytes: &[u8]) -> Result<(Key, &[u8]), RecordFault>
-    ensures { Gives (λ x. (x.0, x.1.now)) result (name_at bytes.now) }
-{
-    let (text, rest) = text_at(bytes)?;
+    let (text, rest) = text_behind(usize::from(size), rest)?;
     match Key::new(alloc, text) {
         Ok(key) => Ok((key, rest)),
         Err(RowFault::BadText) => Err(RecordFault::BadBody),
@@ -93,11 +106,33 @@ pub(crate) fn key_at(alloc: Global, bytes: &[u8]) -> Result<(Key, &[u8]), Record
     }
 }
 
-#[tactic(auto, using(crate::proofs::Names::named, crate::proofs::Names::unnamed), unfolding(crate::specs::Reading::name_at))]
-fn value_at(alloc: Global, bytes: &[u8]) -> Result<(Val, &[u8]), RecordFault>
-    ensures { Gives (λ x. (x.0, x.1.now)) result (name_at bytes.now) }
+#[tactic(auto, unfolding(crate::specs::Reading::length_at))]
+fn length_at(version: Version, bytes: &[u8]) -> Option<(usize, &[u8])>
+    ensures { option_map (λ x. (x.0, x.1.now)) result ≡ length_at version bytes.now }
 {
-    let (text, rest) = text_at(bytes)?;
+    match version {
+        Version::One => {
+            let (size, rest) = byte_at(bytes)?;
+            Some((usize::from(size), rest))
+        }
+        Version::Two => {
+            let (size, rest) = two_at(bytes)?;
+            Some((usize::from(size), rest))
+        }
+    }
+}
+
+#[tactic(auto, using(crate::proofs::Names::named, crate::proofs::Names::unnamed), unfolding(crate::specs::Reading::value_at))]
+fn value_at(alloc: Global, version: Version, bytes: &[u8]) -> Result<(Val, &[u8]), RecordFault>
+    ensures { Gives (λ x. (x.0, x.1.now)) result (value_at version bytes.now) }
+{
+    let Some((size, rest)) = length_at(version, bytes) else {
+        return Err(RecordFault::BadBody);
+    };
+    let (text, rest) = text_behind(size, rest)?;
+    if text.len() > version.longest_value() {
+        return Err(RecordFault::BadBody);
+    }
     match Val::new(alloc, text) {
         Ok(value) => Ok((value, rest)),
         Err(RowFault::BadText) => Err(RecordFault::BadBody),
@@ -106,20 +141,28 @@ fn value_at(alloc: Global, bytes: &[u8]) -> Result<(Val, &[u8]), RecordFault>
 }
 
 #[tactic(auto, unfolding(crate::specs::Reading::row_at))]
-pub(crate) fn row_at(alloc: Global, bytes: &[u8]) -> Result<((Key, Val), &[u8]), RecordFault>
-    ensures { Gives (λ x. (x.0, x.1.now)) result (row_at bytes.now) }
+pub(crate) fn row_at(
+    alloc: Global,
+    version: Version,
+    bytes: &[u8],
+) -> Result<((Key, Val), &[u8]), RecordFault>
+    ensures { Gives (λ x. (x.0, x.1.now)) result (row_at version bytes.now) }
 {
     let (key, rest) = key_at(alloc, bytes)?;
-    let (value, rest) = value_at(alloc, rest)?;
+    let (value, rest) = value_at(alloc, version, rest)?;
     Ok(((key, value), rest))
 }
 
-#[tactic(auto, unfolding(crate::specs::Reading::row_at))]
-pub(crate) fn values_at(alloc: Global, bytes: &[u8]) -> Result<((Val, Val), &[u8]), RecordFault>
-    ensures { Gives (λ x. (x.0, x.1.now)) result (row_at bytes.now) }
+#[tactic(auto, unfolding(crate::specs::Reading::values_at))]
+pub(crate) fn values_at(
+    alloc: Global,
+    version: Version,
+    bytes: &[u8],
+) -> Result<((Val, Val), &[u8]), RecordFault>
+    ensures { Gives (λ x. (x.0, x.1.now)) result (values_at version bytes.now) }
 {
-    let (first, rest) = value_at(alloc, bytes)?;
-    let (second, rest) = value_at(alloc, rest)?;
+    let (first, rest) = value_at(alloc, version, bytes)?;
+    let (second, rest) = value_at(alloc, version, rest)?;
     Ok(((first, second), rest))
 }
 

@@ -7,6 +7,7 @@ mod fields;
 mod read;
 mod row_table;
 mod set_state;
+mod version;
 mod write;
 
 pub use change::Change;

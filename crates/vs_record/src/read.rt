@@ -1,24 +1,25 @@
 //! Changes from their bodies.
 
-ghost use Rattle.std.specs.Prelude.{◌≡◌, ◌≢◌, [], Some, Err, OnOk, IfOk, IfErr};
-ghost use Rattle.vs_record.specs.Body.{body_of, IsRecordable};
+ghost use Rattle.std.specs.Prelude.{◌≡◌, ◌≢◌, ◌≤◌, ℕ, [], Option, Some, Err, OnOk, IfOk, IfErr};
+ghost use Rattle.vs_record.specs.Body.{IsBodyOf, IsOfVersion};
 ghost use Rattle.vs_record.specs.Change as plain;
-ghost use Rattle.vs_record.specs.Change.{change};
-ghost use Rattle.vs_record.specs.Reading.{Gives, rows_at, op_by, op_at, ops_at, set_status_at, add_rows_at, write_at, wipe_at, forget_at, whole, change_of};
+ghost use Rattle.vs_record.specs.Change.{change, entry_of};
+ghost use Rattle.vs_record.specs.Reading.{Gives, rows_at, op_by, op_at, ops_at, set_status_at, add_rows_at, write_at, wipe_at, forget_at, whole, text_of, change_of};
 
 use crate::change::Change;
 use crate::fault::RecordFault;
 use crate::fields::{
-    bucket_at, byte_at, client_at, few_at, four_at, key_at, many_at, row_at, set_at, status_at,
-    two_at, values_at,
+    bucket_at, byte_at, client_at, eight_at, few_at, four_at, key_at, many_at, row_at, set_at,
+    status_at, two_at, values_at,
 };
+use crate::version::Version;
 use std::alloc::Global;
 use vs_base::CallId;
 use vs_rows::{Op, Ops, Page};
 
 #[tactic(auto, unfolding(crate::specs::Reading::op_by))]
-fn op_by(alloc: Global, tag: u8, bytes: &[u8]) -> Result<(Op, &[u8]), RecordFault>
-    ensures { Gives (λ x. (x.0, x.1.now)) result (op_by tag bytes.now) }
+fn op_by(alloc: Global, version: Version, tag: u8, bytes: &[u8]) -> Result<(Op, &[u8]), RecordFault>
+    ensures { Gives (λ x. (x.0, x.1.now)) result (op_by version tag bytes.now) }
 {
     match tag {
         1 => {
@@ -26,11 +27,11 @@ fn op_by(alloc: Global, tag: u8, bytes: &[u8]) -> Result<(Op, &[u8]), RecordFaul
             Ok((Op::Get(key), rest))
         }
         2 => {
-            let ((key, value), rest) = row_at(alloc, bytes)?;
+            let ((key, value), rest) = row_at(alloc, version, bytes)?;
             Ok((Op::Put(key, value), rest))
         }
         3 => {
-            let ((key, value), rest) = row_at(alloc, bytes)?;
+            let ((key, value), rest) = row_at(alloc, version, bytes)?;
             Ok((Op::Insert(key, value), rest))
         }
         4 => {
@@ -39,7 +40,7 @@ fn op_by(alloc: Global, tag: u8, bytes: &[u8]) -> Result<(Op, &[u8]), RecordFaul
         }
         5 => {
             let (key, rest) = key_at(alloc, bytes)?;
-            let ((old, new), rest) = values_at(alloc, rest)?;
+            let ((old, new), rest) = values_at(alloc, version, rest)?;
             Ok((Op::Swap(key, old, new), rest))
         }
         6 => Ok((Op::Count, bytes)),
@@ -55,18 +56,18 @@ fn op_by(alloc: Global, tag: u8, bytes: &[u8]) -> Result<(Op, &[u8]), RecordFaul
 }
 
 #[tactic(auto, unfolding(crate::specs::Reading::op_at))]
-fn op_at(alloc: Global, bytes: &[u8]) -> Result<(Op, &[u8]), RecordFault>
-    ensures { Gives (λ x. (x.0, x.1.now)) result (op_at bytes.now) }
+fn op_at(alloc: Global, version: Version, bytes: &[u8]) -> Result<(Op, &[u8]), RecordFault>
+    ensures { Gives (λ x. (x.0, x.1.now)) result (op_at version bytes.now) }
 {
     let Some((tag, rest)) = byte_at(bytes) else {
         return Err(RecordFault::BadBody);
     };
-    op_by(alloc, tag, rest)
+    op_by(alloc, version, tag, rest)
 }
 
 #[tactic(auto, using(crate::proofs::Loops::ops_on, crate::proofs::Loops::ops_stop, crate::proofs::Loops::ops_done), unfolding(crate::specs::Reading::ops_at))]
-fn ops_at(alloc: Global, bytes: &[u8]) -> Result<(Ops, &[u8]), RecordFault>
-    ensures { Gives (λ x. (x.0.items, x.1.now)) result (ops_at bytes.now) }
+fn ops_at(alloc: Global, version: Version, bytes: &[u8]) -> Result<(Ops, &[u8]), RecordFault>
+    ensures { Gives (λ x. (x.0.items, x.1.now)) result (ops_at version bytes.now) }
 {
     let Some((count, rest)) = byte_at(bytes) else {
         return Err(RecordFault::BadBody);
@@ -74,10 +75,10 @@ fn ops_at(alloc: Global, bytes: &[u8]) -> Result<(Ops, &[u8]), RecordFault>
     if count < 1 || usize::from(count) > Ops::MAX {
         return Err(RecordFault::BadBody);
     }
-    let (first, mut rest) = op_at(alloc, rest)?;
+    let (first, mut rest) = op_at(alloc, version, rest)?;
     let mut ops = Ops::one(alloc, first)?;
     for _ in 1..count {
-        let (op, more) = op_at(alloc, rest)?;
+        let (op, more) = op_at(alloc, version, rest)?;
         ops.reserve()?;
         ops.push(op);
         rest = more;
@@ -86,8 +87,8 @@ fn ops_at(alloc: Global, bytes: &[u8]) -> Result<(Ops, &[u8]), RecordFault>
 }
 
 #[tactic(auto, using(crate::proofs::Loops::rows_on, crate::proofs::Loops::rows_stop, crate::proofs::Loops::rows_done, crate::proofs::Loops::rows_fall), unfolding(crate::specs::Reading::rows_at))]
-fn page_at(alloc: Global, bytes: &[u8]) -> Result<(Page, &[u8]), RecordFault>
-    ensures { Gives (λ x. (x.0.items, x.1.now)) result (rows_at bytes.now) }
+fn page_at(alloc: Global, version: Version, bytes: &[u8]) -> Result<(Page, &[u8]), RecordFault>
+    ensures { Gives (λ x. (x.0.items, x.1.now)) result (rows_at version bytes.now) }
 {
     let Some((count, mut rest)) = two_at(bytes) else {
         return Err(RecordFault::BadBody);
@@ -97,7 +98,7 @@ fn page_at(alloc: Global, bytes: &[u8]) -> Result<(Page, &[u8]), RecordFault>
     }
     let mut page = Page::new(alloc);
     for _ in 0..count {
-        let (row, more) = row_at(alloc, rest)?;
+        let (row, more) = row_at(alloc, version, rest)?;
         if !page.can_push(&row.0) {
             return Err(RecordFault::BadBody);
         }
@@ -109,8 +110,8 @@ fn page_at(alloc: Global, bytes: &[u8]) -> Result<(Page, &[u8]), RecordFault>
 }
 
 #[tactic(auto, unfolding(crate::specs::Reading::id_at))]
-fn write_of(alloc: Global, bytes: &[u8]) -> Result<Change, RecordFault>
-    ensures { Gives change result (whole (write_at bytes.now)) }
+fn write_of(alloc: Global, version: Version, bytes: &[u8]) -> Result<Change, RecordFault>
+    ensures { Gives change result (whole (write_at version bytes.now)) }
 {
     let Some((client, rest)) = client_at(bytes) else {
         return Err(RecordFault::BadBody);
@@ -121,7 +122,7 @@ fn write_of(alloc: Global, bytes: &[u8]) -> Result<Change, RecordFault>
     let Some((bucket, rest)) = bucket_at(rest) else {
         return Err(RecordFault::BadBody);
     };
-    let (ops, rest) = ops_at(alloc, rest)?;
+    let (ops, rest) = ops_at(alloc, version, rest)?;
     ended(rest)?;
     Ok(Change::Write(CallId { client, call }, bucket, ops))
 }
@@ -150,8 +151,8 @@ fn status_of(bytes: &[u8]) -> Result<Change, RecordFault>
     Ok(Change::Status(bucket, status))
 }
 
-fn page_of(alloc: Global, bytes: &[u8]) -> Result<Change, RecordFault>
-    ensures { Gives change result (whole (add_rows_at bytes.now)) }
+fn page_of(alloc: Global, version: Version, bytes: &[u8]) -> Result<Change, RecordFault>
+    ensures { Gives change result (whole (add_rows_at version bytes.now)) }
 {
     let Some((bucket, rest)) = bucket_at(bytes) else {
         return Err(RecordFault::BadBody);
@@ -159,7 +160,7 @@ fn page_of(alloc: Global, bytes: &[u8]) -> Result<Change, RecordFault>
     let Some((source, rest)) = set_at(rest) else {
         return Err(RecordFault::BadBody);
     };
-    let (page, rest) = page_at(alloc, rest)?;
+    let (page, rest) = page_at(alloc, version, rest)?;
     ended(rest)?;
     Ok(Change::RowsPage(bucket, source, page))
 }
@@ -187,38 +188,60 @@ fn forget_of(bytes: &[u8]) -> Result<Change, RecordFault>
     Ok(Change::Forget(bucket))
 }
 
-#[tactic(auto, unfolding(crate::specs::Reading::change_of, crate::specs::Reading::change_by))]
-fn change_of(alloc: Global, body: &[u8]) -> Result<Change, RecordFault>
-    ensures { Gives change result (change_of body.now) }
+#[tactic(auto, unfolding(crate::specs::Reading::text_of, crate::specs::Reading::change_by))]
+fn text_of(alloc: Global, version: Version, bytes: &[u8]) -> Result<Change, RecordFault>
+    ensures { Gives change result (text_of version bytes.now) }
 {
-    let Some((tag, rest)) = byte_at(body) else {
+    let Some((tag, rest)) = byte_at(bytes) else {
         return Err(RecordFault::BadBody);
     };
     match tag {
         1 => status_of(rest),
-        2 => page_of(alloc, rest),
-        3 => write_of(alloc, rest),
+        2 => page_of(alloc, version, rest),
+        3 => write_of(alloc, version, rest),
         4 => wipe_of(rest),
         5 => forget_of(rest),
         _ => Err(RecordFault::BadBody),
     }
 }
 
-/// The change whose body these bytes are.
-pub fn read_change(alloc: Global, body: &[u8]) -> Result<Change, RecordFault>
-    // What is read is spelled so, and may stand in a journal.
-    ensures found { IfOk result (λ c.
-        IsRecordable (change c) × (body.now ≡ body_of (change c))) }
+#[tactic(auto, unfolding(crate::specs::Reading::change_of))]
+fn change_of(alloc: Global, body: &[u8], version: u8) -> Result<(Option<u64>, Change), RecordFault>
+    ensures { Gives entry_of result (change_of version body.now) }
+{
+    if version == 1 {
+        let change = text_of(alloc, Version::One, body)?;
+        return Ok((None, change));
+    }
+    let Some((number, rest)) = eight_at(body) else {
+        return Err(RecordFault::BadBody);
+    };
+    let change = text_of(alloc, Version::Two, rest)?;
+    Ok((Some(number), change))
+}
+
+/// The change whose body these bytes are, in a journal's part of this version, and its number: one
+/// of the first part, which is of version 1, has none.
+pub fn read_change(
+    alloc: Global,
+    body: &[u8],
+    version: u8,
+) -> Result<(Option<u64>, Change), RecordFault>
+    requires { (1 ≤ version) × (version ≤ 2) }
+    ensures version { IfOk result (λ entry. IsOfVersion version entry.0) }
+
+    // What is read may stand in a journal, and is spelled so and not otherwise.
+    ensures found { IfOk result (λ entry. IsBodyOf body.now entry.0 (change entry.1)) }
 
     // What is spelled so is read, unless memory is wanted.
-    ensures again { (c : plain.Change) → IsRecordable c → body.now ≡ body_of c
-        → Gives change result (Some c) }
+    ensures again { (number : Option ℕ) (c : plain.Change) → IsOfVersion version number
+        → IsBodyOf body.now number c → Gives entry_of result (Some (number, c)) }
 
     // It is refused as no body exactly where no change is spelled so.
-    ensures bad { result ≡ Err RecordFault.BadBody
-        → (c : plain.Change) → IsRecordable c → body.now ≢ body_of c }
+    ensures bad { result ≡ Err RecordFault.BadBody → (number : Option ℕ) (c : plain.Change)
+        → IsOfVersion version number → ¬ (IsBodyOf body.now number c) }
 
-    ensures reading { Gives change result (change_of body.now) }
+    ensures reading { Gives entry_of result (change_of version body.now) }
 {
-    change_of(alloc, body)
+    change_of(alloc, body, version)
 }

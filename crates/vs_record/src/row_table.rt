@@ -12,7 +12,7 @@ use vs_rows::{Ops, Page, Rows};
 
 /// The rows of the buckets of a set: a map from buckets to rows. Contracts see what stands at the
 /// place of each bucket, and whether there are places.
-#[derive(Debug, Drop)]
+#[derive(Drop)]
 pub struct RowTable {
     places: Vec<Option<Rows>>,
 }

@@ -10,7 +10,7 @@ use vs_rows::Page;
 use vs_space::{Space, Status, may_change};
 
 /// A set's entries, and the rows of its buckets. A journal stands for one.
-#[derive(Debug, Drop)]
+#[derive(Drop)]
 pub struct SetState {
     pub space: Space,
     pub rows: RowTable,

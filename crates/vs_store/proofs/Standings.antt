@@ -1,109 +1,175 @@
 -- What a file stands for, by its journal.
-use Rattle.std.proofs.Common.{◌≡◌, ◌⊎◌, ⊎_elim, inl, inr, ℕ, ◌+◌, Bool, true, false, List, [], ◌∷◌, ◌++◌, length, Some, Result, Ok, Err, if◌then◌else◌, refl, sym, ap, subst, ◌∙◌, arith}
-use Rattle.vs_disk.specs.Told.{Told, IsSynced}
-use Rattle.vs_disk.specs.Model.{IsLawful, LeavesThrough}
-use Rattle.vs_disk.proofs.Runs.{started}
-use Rattle.vs_frame.specs.Journal.{IsJournal, IsOldOrNew, HasBehind}
-use Rattle.vs_frame.specs.Reading.{Journal, journal_of}
+use Rattle.std.proofs.Common.{◌≡◌, ◌⊎◌, inl, inr, ℕ, ◌+◌, ◌==◌, Bool, true, false, List, [], length, Option, Some, None, Result, Ok, Err, if◌then◌else◌, refl, sym, ap, subst, ◌∙◌, arith, length-append}
+use Rattle.std.specs.Prelude.{IsOkAnd}
+use Rattle.std.specs.Int.{w64}
+use Rattle.std.specs.Str.{bytes_eq}
+use Rattle.std.proofs.lemmas.Bool.Decides.{Decides-eqb}
+use Rattle.std.proofs.lemmas.Slice.Eq.{bytes_eq-Decides}
+use Rattle.vs_frame.specs.Journal.{Journal, IsJournal, IsOldOrNew, IsInFirst, IsInSecond, migrated}
+use Rattle.vs_frame.specs.Reading.{journal_of}
 use Rattle.vs_frame.specs.declared.head.Head.{Head}
 use Rattle.vs_frame.proofs.JournalOf.{journal_found, journal_told}
-use Rattle.vs_frame.proofs.Journals.{last_is_behind}
-use Rattle.vs_record.specs.Body.{body_of}
+use Rattle.vs_record.specs.Body.{IsRecordable, body_of, number_text}
 use Rattle.vs_record.specs.Change.{Change}
-use Rattle.vs_record.specs.Durable.{Durable, FitsState, applied, booted}
-use Rattle.vs_record.specs.Fitting.{fits}
-use Rattle.vs_record.specs.Reading.{change_of}
+use Rattle.vs_record.specs.Durable.{Durable, FitsState, booted, applied}
+use Rattle.vs_record.proofs.Changes.{change_again}
 use Rattle.vs_record.proofs.Fitting.{fits_decides}
-use Rattle.vs_store.specs.Standing.{Standing, standing, standing_by, state_of, folded, folded_from, after, StandsForEither}
-use Rattle.vs_store.proofs.Folding.{folded_push}
+use Rattle.vs_store.specs.declared.fault.StoreFault.{StoreFault}
+use Rattle.vs_store.specs.declared.fault.StoreFault.TheVariants.{NotAJournal, OtherSet, OtherCount}
+use Rattle.vs_store.specs.Files.{StandsFor}
+use Rattle.vs_store.specs.Standing.{◌>>=◌, with_number, change_with, stepped, end_of, folded_in, Standing, standing, standing_by, state_of, of_set, opened_by, opened, fresh, next_number, after, in_version_2, entry_len}
+use Rattle.vs_store.proofs.Folding.{folded_second, folded_alone, folded_begun}
 
-record Parts (file : List ℕ) (s : Standing) : Type 0 where
-  journal : journal_of file ≡ Ok s.journal
-  state : folded_from s.journal.head s.journal.bodies ≡ Ok s.state
+-- ---- a file and its parts
 
-parts : (file : List ℕ) (s : Standing) → state_of file ≡ Ok s → Parts file s
+pub record Parts (file : List ℕ) (s : Standing) : Type 0 where
+  pub journal : journal_of file ≡ Ok s.journal
+  pub made : folded_in s.journal ≡ Ok s.state
+
+pub parts : (file : List ℕ) (s : Standing) → state_of file ≡ Ok s → Parts file s
 parts file s is = by (journal_of file) refl is
   where
-    of : (j : Journal) (r : Result Durable ℕ) → folded_from j.head j.bodies ≡ r → journal_of file ≡ Ok j → standing j r ≡ Ok s → Parts file s
+    of : (j : Journal) (r : Result Durable ℕ) → folded_in j ≡ r → journal_of file ≡ Ok j → standing j r ≡ Ok s → Parts file s
     of j (Err p) folds found e = absurd cc
     of j (Ok d) folds found e =
         let same : record { journal = j; state = d } ≡ s = cc in
-        subst (Parts file) same (record { journal = found; state = folds })
+        subst (Parts file) same (record { journal = found; made = folds })
 
     by : (r : Result Journal ℕ) → journal_of file ≡ r → standing_by file r ≡ Ok s → Parts file s
     by (Err p) found e = absurd cc
-    by (Ok j) found e = of j (folded_from j.head j.bodies) refl found e
+    by (Ok j) found e = of j (folded_in j) refl found e
 
-pub is_journal : (file : List ℕ) (s : Standing) (gate : ℕ) → state_of file ≡ Ok s → s.journal.gate ≡ gate → IsJournal file s.journal.head s.journal.bodies gate
-is_journal file s gate is gate_is = subst (λ (g : ℕ). IsJournal file s.journal.head s.journal.bodies g) gate_is (journal_told file s.journal (parts file s is).journal)
+pub is_journal : (file : List ℕ) (s : Standing) → state_of file ≡ Ok s → IsJournal file s.journal
+is_journal file s is = journal_told file s.journal (parts file s is).journal
 
 -- a journal whose bodies make a state stands for that
-pub stands : (file : List ℕ) (head : Head) (bodies : List (List ℕ)) (gate : ℕ) (d : Durable) → IsJournal file head bodies gate → folded_from head bodies ≡ Ok d → state_of file ≡ Ok (record { journal = record { head = head; bodies = bodies; gate = gate }; state = d })
-stands file head bodies gate d is folds = ap (standing_by file) (journal_found file head bodies gate is) ∙ ap (standing (record { head = head; bodies = bodies; gate = gate })) folds
+pub stands : (file : List ℕ) (j : Journal) (d : Durable) → IsJournal file j → folded_in j ≡ Ok d → state_of file ≡ Ok (record { journal = j; state = d })
+stands file j d is folds = ap (standing_by file) (journal_found file j is) ∙ ap (standing j) folds
 
-module _ (s : Standing) (c : Change) (body : List ℕ) (is : body ≡ body_of c) (reads : change_of body ≡ Some c) (gate : ℕ) (gate_is : s.journal.gate ≡ gate) where
-  again : (file before : List ℕ) → state_of before ≡ Ok s → IsJournal file s.journal.head s.journal.bodies gate → state_of file ≡ Ok s
-  again file before stood j = stands file s.journal.head s.journal.bodies s.journal.gate s.state (subst (λ (g : ℕ). IsJournal file s.journal.head s.journal.bodies g) (sym gate_is) j) (parts before s stood).state
+-- one that was found is the one that stands there
+pub same_journal : (file : List ℕ) (s : Standing) (j : Journal) → state_of file ≡ Ok s → IsJournal file j → s.journal ≡ j
+same_journal file s j is found =
+    let both : ◌≡◌ {A = Result Journal ℕ} (Ok s.journal) (Ok j) = sym (parts file s is).journal ∙ journal_found file j found in
+    cc
 
-  more : (file before : List ℕ) → state_of before ≡ Ok s → FitsState s.journal.head.bucket_count s.state c → IsJournal file s.journal.head (s.journal.bodies ++ body ∷ []) (gate + (5 + length body)) → state_of file ≡ Ok (after s c)
-  more file before stood fit j =
-      let place : gate + (5 + length body) ≡ s.journal.gate + (5 + length (body_of c)) = λ i. sym gate_is i + (5 + length (is i)) in
-      let named : IsJournal file s.journal.head (s.journal.bodies ++ body_of c ∷ []) (s.journal.gate + (5 + length (body_of c))) = subst (λ (g : ℕ). IsJournal file s.journal.head (s.journal.bodies ++ body_of c ∷ []) g) place (subst (λ (b : List ℕ). IsJournal file s.journal.head (s.journal.bodies ++ b ∷ []) (gate + (5 + length body))) is j) in
-      let folds = folded_push s.journal.head.bucket_count _ 36 s.journal.bodies (body_of c) s.state c (parts before s stood).state (ap change_of (sym is) ∙ reads) ((fits_decides s.journal.head.bucket_count s.state c).1 fit) in
-      stands file s.journal.head (s.journal.bodies ++ body_of c ∷ []) (s.journal.gate + (5 + length (body_of c))) (applied s.state c) named folds
+-- ---- one change more
 
-  pub appended : (before file : List ℕ) (gate' : ℕ) → state_of before ≡ Ok s → FitsState s.journal.head.bucket_count s.state c → gate' ≡ gate + (5 + length body)
-      → ((head : Head) (bodies : List (List ℕ)) → IsJournal before head bodies gate → IsJournal file head (bodies ++ body ∷ []) gate') → state_of file ≡ Ok (after s c)
-  appended before file gate' stood fit place goes_on =
-      more file before stood fit (subst (λ (g : ℕ). IsJournal file s.journal.head (s.journal.bodies ++ body ∷ []) g) place (goes_on s.journal.head s.journal.bodies (is_journal before s gate stood gate_is)))
+pub its_change : (n : ℕ) (c : Change) → IsRecordable (Some n) c → change_with (Some n) (body_of (Some n) c) ≡ Some c
+its_change n c is = ap (with_number n) (change_again 2 (Some n) c refl is) ∙ ap (λ (t : Bool). if t then Some c else None) ((Decides-eqb n n).1 refl)
 
-  pub either : (before file : List ℕ) → state_of before ≡ Ok s → FitsState s.journal.head.bucket_count s.state c → IsOldOrNew s.journal.head s.journal.bodies gate body file → StandsForEither s c file
-  either before file stood fit (inl old) = inl (again file before stood old)
-  either before file stood fit (inr new) = inr (more file before stood fit new)
+pub stepped_on : (n : ℕ) (d : Durable) (gate : ℕ) (r : Option Change) (c : Change) → r ≡ Some c → FitsState n d c → stepped n d gate r ≡ Ok (applied d c)
+stepped_on n d gate r c is fit = ap (stepped n d gate) is ∙ ap (λ (t : Bool). if t then Ok (applied d c) else Err gate) ((fits_decides n d c).1 fit)
 
--- ---- reopening
+pub after_made : (was : Standing) (c : Change) → folded_in was.journal ≡ Ok was.state → IsRecordable (Some (next_number was.journal)) c → FitsState was.journal.head.bucket_count was.state c → folded_in (after was c).journal ≡ Ok (applied was.state c)
+after_made was c made recordable fit =
+    let j = was.journal in
+    let body = body_of (Some (next_number j)) c in
+    let gate = end_of (end_of 36 j.first + 1) j.second in
+    folded_second j body (j.gate + (5 + length body)) ∙ ap (λ (r : Result Durable ℕ). r >>= λ d. stepped j.head.bucket_count d gate (change_with (Some (length j.second + 1)) body)) made
+    ∙ stepped_on j.head.bucket_count was.state gate (change_with (Some (length j.second + 1)) body) c (its_change (next_number j) c recordable) fit
 
-module _ (s : Standing) (c : Change) (last next : ℕ) (gate_is : s.journal.gate ≡ last) (next_is : next ≡ last + (5 + length (body_of c))) where
-  pub old_or_new : (file : List ℕ) → StandsForEither s c file → IsOldOrNew s.journal.head s.journal.bodies last (body_of c) file
-  old_or_new file (inl old) = inl (is_journal file s last old gate_is)
-  old_or_new file (inr new) = inr (is_journal file (after s c) (last + (5 + length (body_of c))) new (λ i. gate_is i + (5 + length (body_of c))))
+pub old_or_after : (was : Standing) (c : Change) → folded_in was.journal ≡ Ok was.state → IsRecordable (Some (next_number was.journal)) c → FitsState was.journal.head.bucket_count was.state c
+    → (file : List ℕ) → IsOldOrNew was.journal (body_of (Some (next_number was.journal)) c) file → (state_of file ≡ Ok was) ⊎ (state_of file ≡ Ok (after was c))
+old_or_after was c made recordable fit file (inl old) = inl (stands file was.journal was.state old made)
+old_or_after was c made recordable fit file (inr new) = inr (stands file (after was c).journal (applied was.state c) new (after_made was c made recordable fit))
 
-  same_gate : (file : List ℕ) (t : Standing) (head : Head) (bodies : List (List ℕ)) (gate : ℕ) → state_of file ≡ Ok t → IsJournal file head bodies gate → t.journal.gate ≡ gate
-  same_gate file t head bodies gate is j =
-      let both : ◌≡◌ {A = Result Journal ℕ} (Ok t.journal) (Ok (record { head = head; bodies = bodies; gate = gate })) = sym (parts file t is).journal ∙ journal_found file head bodies gate j in
-      let same : t.journal ≡ record { head = head; bodies = bodies; gate = gate } = cc in
-      ap (λ (k : Journal). k.gate) same
+number_size : (n : ℕ) → length (number_text w64 n) ≡ 8
+unfolding number_text
+number_size n = refl
 
-  pub reopened : (file new : List ℕ) (found : Bool) (gate : ℕ) → new ≡ file → StandsForEither s c file → gate ≡ (if found then next else last) → IsJournal new s.journal.head (if found then s.journal.bodies ++ body_of c ∷ [] else s.journal.bodies) gate
-      → state_of new ≡ Ok (if found then after s c else s)
-  reopened file new true gate same (inl old) place j = absurd (let e = same_gate new s s.journal.head (s.journal.bodies ++ body_of c ∷ []) gate (ap state_of same ∙ old) j in omega (arith, e, place, next_is, gate_is))
-  reopened file new true gate same (inr is) place j = ap state_of same ∙ is
-  reopened file new false gate same (inl is) place j = ap state_of same ∙ is
-  reopened file new false gate same (inr is) place j = absurd (let e = same_gate new (after s c) s.journal.head s.journal.bodies gate (ap state_of same ∙ is) j in omega (arith, e, place, next_is, gate_is))
+-- the entry of a change takes as many bytes whatever its number
+pub entry_is : (n : ℕ) (c : Change) → 5 + length (body_of (Some n) c) ≡ entry_len c
+unfolding entry_len
+entry_is n c = omega (arith, length-append {A = ℕ}, number_size n, number_size 0)
 
--- ---- dropping
+-- ---- opening
 
-pub has_behind : (s : Standing) (c : Change) (last : ℕ) → s.journal.gate ≡ last → (file : List ℕ) → state_of file ≡ Ok (after s c) → HasBehind file s.journal.head s.journal.bodies last (body_of c)
-has_behind s c last gate_is file is = last_is_behind s.journal.head s.journal.bodies last (body_of c) file (is_journal file (after s c) (last + (5 + length (body_of c))) is (λ i. gate_is i + (5 + length (body_of c))))
+pub opened_is : (head : Head) (file : List ℕ) (s : Standing) → state_of file ≡ Ok s → of_set head s.journal.head ≡ Ok tt → opened head file ≡ Ok s
+opened_is head file s is own = ap (opened_by head) is ∙ ap (λ (r : Result (Unit {0}) StoreFault). r >>= λ u. Ok s) own
 
-pub dropped : (s : Standing) (last : ℕ) → s.journal.gate ≡ last → (before file : List ℕ) → state_of before ≡ Ok s → IsJournal file s.journal.head s.journal.bodies last → state_of file ≡ Ok s
-dropped s last gate_is before file stood j = stands file s.journal.head s.journal.bodies s.journal.gate s.state (subst (λ (g : ℕ). IsJournal file s.journal.head s.journal.bodies g) (sym gate_is) j) (parts before s stood).state
+pub record Opens (head : Head) (file : List ℕ) (s : Standing) : Type 0 where
+  pub stands : state_of file ≡ Ok s
+  pub own : of_set head s.journal.head ≡ Ok tt
 
--- ---- where nothing is written
+pub opens : (head : Head) (file : List ℕ) (s : Standing) → opened head file ≡ Ok s → Opens head file s
+opens head file s is = by (state_of file) refl is
+  where
+    own : (t : Standing) (r : Result (Unit {0}) StoreFault) → of_set head t.journal.head ≡ r → state_of file ≡ Ok t → (r >>= λ u. Ok t) ≡ Ok s → Opens head file s
+    own t (Err e) of found h = absurd cc
+    own t (Ok u) of found h = let same : t ≡ s = cc in subst (Opens head file) same (record { stands = found; own = of })
 
-pub stays : (disk : Told) → IsLawful disk → IsSynced disk → (s : Standing) (c : Change) → state_of disk.reads_as ≡ Ok s → LeavesThrough disk disk (StandsForEither s c)
-stays disk laws synced s c stood honest = started disk (StandsForEither s c) (λ file left. subst (StandsForEither s c) (sym (synced honest file (laws.only_now honest file left))) (inl stood))
+    by : (r : Result Standing ℕ) → state_of file ≡ r → opened_by head r ≡ Ok s → Opens head file s
+    by (Err p) found h = absurd cc
+    by (Ok t) found h = own t (of_set head t.journal.head) refl found h
 
--- ---- a new journal
+pub stands_for : (head : Head) (d : Durable) (file : List ℕ) (s : Standing) → state_of file ≡ Ok s → of_set head s.journal.head ≡ Ok tt → s.state ≡ d → StandsFor head d file
+stands_for head d file s is own state = subst (λ (r : Result Standing StoreFault). IsOkAnd r (λ t. t.state ≡ d)) (sym (opened_is head file s is own)) state
 
-pub folded_none : (head : Head) → folded_from head [] ≡ Ok (booted head.boot_first head.boot_count)
-unfolding folded
-folded_none head = refl
+-- what an opened file is
+pub ok_and : (P : Standing → Type 0) (r : Result Standing StoreFault) → IsOkAnd r P → (s : Standing) × (r ≡ Ok s) × P s
+ok_and P (Ok s) p = (s, refl, p)
+ok_and P (Err e) p = absurd p
 
--- ---- what a file stood for with a change and without
+pub is_ok_and : (P : Standing → Type 0) (r : Result Standing StoreFault) (s : Standing) → r ≡ Ok s → P s → IsOkAnd r P
+is_ok_and P r s is p = subst (λ (x : Result Standing StoreFault). IsOkAnd x P) (sym is) p
 
-pub either_again : (s : Standing) (c : Change) (last : ℕ) → s.journal.gate ≡ last → (before with_it : List ℕ) → state_of before ≡ Ok s → state_of with_it ≡ Ok (after s c) → (file : List ℕ) → IsOldOrNew s.journal.head s.journal.bodies last (body_of c) file → StandsForEither s c file
-either_again s c last gate_is before with_it stood is file (inl old) = inl (dropped s last gate_is before file stood old)
-either_again s c last gate_is before with_it stood is file (inr new) =
-    let place : last + (5 + length (body_of c)) ≡ s.journal.gate + (5 + length (body_of c)) = λ i. sym gate_is i + (5 + length (body_of c)) in
-    inr (stands file s.journal.head (s.journal.bodies ++ body_of c ∷ []) (s.journal.gate + (5 + length (body_of c))) (applied s.state c) (subst (λ (g : ℕ). IsJournal file s.journal.head (s.journal.bodies ++ body_of c ∷ []) g) place new) (parts with_it (after s c) is).state)
+pub own_head : (head : Head) → of_set head head ≡ Ok tt
+own_head head =
+    let uuid : bytes_eq head.uuid head.uuid ≡ true = (bytes_eq-Decides head.uuid head.uuid).1 refl in
+    let count : (head.bucket_count == head.bucket_count) ≡ true = (Decides-eqb head.bucket_count head.bucket_count).1 refl in
+    rw (uuid, count) refl
+
+abbrev fine : Result (Unit {0}) StoreFault
+fine = Ok tt
+
+-- an opened file is of as many buckets
+pub count_is : (head found : Head) → of_set head found ≡ fine → found.bucket_count ≡ head.bucket_count
+count_is head found is = by (bytes_eq found.uuid head.uuid) (found.bucket_count == head.bucket_count) refl is
+  where
+    by : (t u : Bool) → (found.bucket_count == head.bucket_count) ≡ u → (if t then (if u then fine else Err (OtherCount found.bucket_count)) else Err (OtherSet found.uuid)) ≡ fine → found.bucket_count ≡ head.bucket_count
+    by true true same e = (Decides-eqb found.bucket_count head.bucket_count).0 same
+    by true false same e = absurd cc
+    by false u same e = absurd cc
+
+pub fresh_is : (head : Head) (file : List ℕ) → IsJournal file (fresh head).journal → state_of file ≡ Ok (fresh head)
+fresh_is head file is = stands file (fresh head).journal (booted head.boot_first head.boot_count) is (folded_begun head 2 37)
+
+-- ---- a migration
+
+-- one of version 1 has no second part
+pub no_second : (file : List ℕ) (j : Journal) → IsJournal file j → j.version ≡ 1 → j.second ≡ []
+no_second file j is version = by is.along.so_far
+  where
+    by : IsInFirst file j j.version ⊎ IsInSecond file j j.version → j.second ≡ []
+    by (inl first) = first.none
+    by (inr second) = absurd (omega (arith, second.version, version))
+
+pub in_2_is : (s : Standing) → s.journal.version ≡ 1 → in_version_2 s ≡ record { journal = migrated s.journal; state = s.state }
+in_2_is s version = rw version refl
+
+pub in_2_same : (s : Standing) → s.journal.version ≡ 2 → in_version_2 s ≡ s
+in_2_same s version = rw version refl
+
+pub migrated_stands : (before file : List ℕ) (s : Standing) → state_of before ≡ Ok s → s.journal.version ≡ 1 → IsJournal file (migrated s.journal) → state_of file ≡ Ok (in_version_2 s)
+migrated_stands before file s is version found =
+    let j = s.journal in
+    let none = no_second before j (is_journal before s is) version in
+    let made = folded_alone (migrated j) refl ∙ sym (folded_alone j none) ∙ (parts before s is).made in
+    stands file (migrated j) s.state found made ∙ ap (λ (t : Standing). Ok t) (sym (in_2_is s version))
+
+-- ---- the head that was found
+
+-- it isn't the set's
+pub other_set : (head found : Head) (P : Standing → Type 0) (r : Result Standing ℕ) (e : StoreFault) → IsOkAnd r (λ s. P s × (s.journal.head ≡ found)) → of_set head found ≡ Err e → opened_by head r ≡ Err e
+other_set head found P (Ok s) e is of = ap (λ (h : Head). of_set head h >>= λ u. Ok s) is.1 ∙ ap (λ (r : Result (Unit {0}) StoreFault). r >>= λ u. Ok s) of
+other_set head found P (Err p) e is of = absurd is
+
+-- it is the set's
+pub this_set : (head found : Head) (P : Standing → Type 0) (r : Result Standing ℕ) → IsOkAnd r (λ s. P s × (s.journal.head ≡ found)) → of_set head found ≡ Ok tt → IsOkAnd (opened_by head r) P
+this_set head found P (Ok s) is of =
+    let opens : opened_by head (Ok s) ≡ Ok s = ap (λ (h : Head). of_set head h >>= λ u. Ok s) is.1 ∙ ap (λ (r : Result (Unit {0}) StoreFault). r >>= λ u. Ok s) of in
+    subst (λ (x : Result Standing StoreFault). IsOkAnd x P) (sym opens) is.0
+this_set head found P (Err p) is of = absurd is
+
+pub no_journal : (head : Head) (r : Result Standing ℕ) (place : ℕ) → r ≡ Err place → opened_by head r ≡ Err (NotAJournal place)
+no_journal head r place is = ap (opened_by head) is

@@ -39,3 +39,10 @@ abbrev pub IsOfCreate : StoreFault → Type 0
 IsOfCreate DiskFault = ⊤
 IsOfCreate NoMemory = ⊤
 IsOfCreate fault = ⊥
+
+-- one of those of reading a journal
+abbrev pub IsOfReading : StoreFault → Type 0
+IsOfReading DiskFault = ⊤
+IsOfReading (NotAJournal place) = ⊤
+IsOfReading NoMemory = ⊤
+IsOfReading fault = ⊥

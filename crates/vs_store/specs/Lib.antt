@@ -1,7 +1,7 @@
 pub use Rattle.vs_disk.specs.Model
 pub use Rattle.vs_disk.specs.Told
-pub use Rattle.vs_frame.specs.Frame
 pub use Rattle.vs_frame.specs.Head
+pub use Rattle.vs_frame.specs.Journal
 pub use Rattle.vs_frame.specs.Reading
 pub use Rattle.vs_frame.specs.Unwritten
 pub use Rattle.vs_record.specs.Body
@@ -9,5 +9,10 @@ pub use Rattle.vs_record.specs.Change
 pub use Rattle.vs_record.specs.Durable
 pub use Rattle.vs_record.specs.States
 pub mod Faults
+pub mod Files
+pub mod Holding
+pub mod Meaning
+pub mod Opening
+pub mod Replay
 pub mod Standing
 pub mod Store

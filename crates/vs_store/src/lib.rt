@@ -2,8 +2,11 @@
 #![tactic(auto)]
 
 mod fault;
+mod laws;
 mod replay;
 mod store;
+mod upgrade;
 
 pub use fault::StoreFault;
+pub use laws::meaning_laws;
 pub use store::Store;

@@ -12,7 +12,7 @@ loop-preserved c =
     let items : c.push.new.self.items ≡ c.loop.ops.items ++ c.in_ok-op.op ∷ [] = search rules in
     record {
       so_far =
-          ap (λ (l : List Op). ops_from (count - (counter + 1)) l c.in_ok-op.more.now) items
-          ∙ ops_on count counter c.loop.rest.now (omega arith) c.loop.ops.items (ops_at c.args.bytes.now) c.loop.invariant.so_far c.in_ok-op.op c.in_ok-op.more.now c.in_ok-op.ensures;
+          ap (λ (l : List Op). ops_from c.args.version (count - (counter + 1)) l c.in_ok-op.more.now) items
+          ∙ ops_on c.args.version count counter c.loop.rest.now (omega arith) c.loop.ops.items (ops_at c.args.version c.args.bytes.now) c.loop.invariant.so_far c.in_ok-op.op c.in_ok-op.more.now c.in_ok-op.ensures;
       many = grind (arith, common_steps);
     }

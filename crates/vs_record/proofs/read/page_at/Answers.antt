@@ -12,7 +12,7 @@ returns-then-not-can_push c =
     let rows = c.loop.page.items in
     let key = c.in_ok-row.row.0 in
     let low : is_above rows key ≡ false = is_unfit rows key c.loop.invariant.page (omega arith) (λ fits. grind (arith, common_steps, c.can_push.ensures.1 fits)) in
-    rows_fall c.in-Some.count c.loop.counter c.loop.rest.now (omega arith) rows (rows_at c.args.bytes.now) c.loop.invariant.so_far c.in_ok-row.row c.in_ok-row.more.now c.in_ok-row.ensures low
+    rows_fall c.args.version c.in-Some.count c.loop.counter c.loop.rest.now (omega arith) rows (rows_at c.args.version c.args.bytes.now) c.loop.invariant.so_far c.in_ok-row.row c.in_ok-row.more.now c.in_ok-row.ensures low
 
 pub loop-preserved : goal.loop-preserved
 loop-preserved c =
@@ -24,8 +24,8 @@ loop-preserved c =
     let page : IsPage (rows ++ row ∷ []) = search rules in
     record {
       so_far =
-          ap (λ (l : RowMap). rows_from (count - (counter + 1)) l c.in_ok-row.more.now) items
-          ∙ rows_on count counter c.loop.rest.now (omega arith) rows (rows_at c.args.bytes.now) c.loop.invariant.so_far row c.in_ok-row.more.now c.in_ok-row.ensures (is_fitting rows row.0 row.1 page);
+          ap (λ (l : RowMap). rows_from c.args.version (count - (counter + 1)) l c.in_ok-row.more.now) items
+          ∙ rows_on c.args.version count counter c.loop.rest.now (omega arith) rows (rows_at c.args.version c.args.bytes.now) c.loop.invariant.so_far row c.in_ok-row.more.now c.in_ok-row.ensures (is_fitting rows row.0 row.1 page);
       many = grind (arith, common_steps);
       page = subst (λ (l : RowMap). IsPage l) (sym items) page;
     }

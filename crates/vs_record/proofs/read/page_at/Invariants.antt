@@ -5,7 +5,7 @@ use Rattle.vs_record.proofs.read.page_at.Given as goal
 
 abbrev pub invariant-loop : goal.invariant-loop
 invariant-loop l = record {
-  so_far : rows_from (l.count - l.counter) l.page.items l.rest ≡ rows_at l.bytes;
+  so_far : rows_from l.version (l.count - l.counter) l.page.items l.rest ≡ rows_at l.version l.bytes;
   many : length l.page.items ≡ l.counter;
   page : IsPage l.page.items;
 }

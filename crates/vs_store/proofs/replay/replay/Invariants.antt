@@ -1,10 +1,19 @@
-use Rattle.std.proofs.Common.{◌≡◌, drop}
-use Rattle.vs_frame.specs.Journal.{bodies_of}
+use Rattle.std.proofs.Common.{◌≡◌, ◌+◌, ◌≤◌}
+use Rattle.vs_frame.specs.Scan.{told_under, left_of, part_of, place_of, version_under, MayGoOn}
+use Rattle.vs_frame.specs.Unwritten.{IsUnwritten}
 use Rattle.vs_record.specs.States.{durable}
-use Rattle.vs_store.specs.Standing.{folded, folded_from}
+use Rattle.vs_disk.specs.Told.{Reads}
+use Rattle.vs_store.specs.Replay.{IsReadSoFar}
 use Rattle.vs_store.proofs.replay.replay.Given as goal
 
-abbrev pub invariant-loop-body : goal.invariant-loop-body
-invariant-loop-body l = record {
-  so_far : folded l.head.bucket_count (durable l.state) l.gate (bodies_of (drop l.body-index l.bodies)) ≡ folded_from l.head (bodies_of l.bodies);
+abbrev pub invariant-bodies : goal.invariant-bodies
+invariant-bodies g l = record {
+  going : MayGoOn l.scan;
+  few : l.count + 36 ≤ place_of l.scan;
+  version : version_under l.scan ≡ version_under l.initial.scan;
+  so_far : Reads (told_under l.scan) (λ file. IsReadSoFar file (part_of l.scan) (place_of l.scan) l.head l.count (durable l.state));
+  unwritten : IsUnwritten (told_under l.initial.scan) (told_under l.scan);
 }
+
+abbrev pub decreases-bodies : goal.decreases-bodies
+decreases-bodies g l = left_of l.scan

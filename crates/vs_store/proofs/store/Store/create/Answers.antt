@@ -1,10 +1,10 @@
-use Rattle.std.proofs.Common.{[], subst}
-use Rattle.vs_frame.specs.Journal.{IsJournal}
-use Rattle.vs_record.specs.Durable.{booted}
-use Rattle.vs_store.proofs.Standings.{stands, folded_none}
+use Rattle.std.proofs.Common.{refl, sym}
+use Rattle.vs_record.specs.States.{durable}
+use Rattle.vs_store.proofs.Opening.{fresh_opened}
 use Rattle.vs_store.proofs.store.Store.create.Goals as goal
 
-pub returns-in-Ok-create-clause-stands : goal.returns-in-Ok-create-clause-stands
-returns-in-Ok-create-clause-stands g c tells =
-    let head = c.args.head.now in
-    stands (g.D.Disk.told c.in-Ok-create.frame.disk).reads_as head [] 36 (booted head.boot_first head.boot_count) (c.in-Ok-create.ensures.journal tells) (folded_none head)
+pub returns-in-Ok-create-clause-opened : goal.returns-in-Ok-create-clause-opened
+returns-in-Ok-create-clause-opened g c =
+    let frame = c.in-Ok-create.frame in
+    let made = c.in-Ok-create.ensures in
+    fresh_opened _ c.args.head.now c.args.limit (g.D.Disk.told c.args.disk) (durable c.in-Ok.state) (g.met.D.Disk.lawful frame.disk) made.durable made.ready.0 refl refl refl (sym made.none) made.level (sym made.ready.1.gate) made.keeps c.requires.none made.torn_ok made.any_moment made.journal c.in-Ok.ensures
