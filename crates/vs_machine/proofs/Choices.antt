@@ -86,7 +86,7 @@ tried s x keep known up pending = do
   Ok (restarted s x keep pending)
 
 -- a set that is down with a pending change may be up again, with it or without it
-may_restart : (s : State) (x : ℕ) (keep : Bool) (change : Change) → IsReached s → has_set s x ≡ true → s.pending x ≡ Some change → step s (Restart x keep Service) ≡ Ok (restarted s x keep (Some change))
+pub may_restart : (s : State) (x : ℕ) (keep : Bool) (change : Change) → IsReached s → has_set s x ≡ true → s.pending x ≡ Some change → step s (Restart x keep Service) ≡ Ok (restarted s x keep (Some change))
 may_restart s x keep change r there is =
     let down = ((reached_whole s r).1.pending x change is).0 in
     by (has_set s x) (s.up x) (s.pending x) keep there down is
@@ -110,7 +110,7 @@ sets_same s x keep None = refl
 sets_same s x true (Some change) = refl
 sets_same s x false (Some change) = refl
 
-chosen_reached : (s : State) (keep : ℕ → Bool) (n : ℕ) → IsReached s → n ≤ sets_of s → IsReached (chosen s keep n) × (sets_of (chosen s keep n) ≡ sets_of s)
+pub chosen_reached : (s : State) (keep : ℕ → Bool) (n : ℕ) → IsReached s → n ≤ sets_of s → IsReached (chosen s keep n) × (sets_of (chosen s keep n) ≡ sets_of s)
 chosen_reached s keep zero r le = (r, refl)
 chosen_reached s keep (suc n) r le =
     let before = chosen_reached s keep n r (omega arith) in

@@ -32,7 +32,7 @@ above p (suc n) k others lt = by (least_to p n) (p (suc n)) (above p n k others 
     by None true e g = absurd cc
     by (Some j) t e g = absurd cc
 
-one_passes : (p : ℕ → Bool) (n k : ℕ) → 1 ≤ k → k ≤ n → p k ≡ true → ((j : ℕ) → j ≢ k → p j ≡ false) → least_to p n ≡ Some k
+pub one_passes : (p : ℕ → Bool) (n k : ℕ) → 1 ≤ k → k ≤ n → p k ≡ true → ((j : ℕ) → j ≢ k → p j ≡ false) → least_to p n ≡ Some k
 one_passes p zero k first last here others = absurd (omega arith)
 one_passes p (suc n) k first last here others = at (λ le. one_passes p n k first le here others) (cases_eq k (suc n))
   where
@@ -52,12 +52,12 @@ one_passes p (suc n) k first last here others = at (λ le. one_passes p n k firs
         last_one (least_to p n) (p (suc n)) none here ∙ ap (λ j. Some j) (sym is)
     at earlier (inr ne) = before (least_to p n) (p (suc n)) (earlier (grind (arith, last, ne)))
 
-none_passes : (p : ℕ → Bool) (n : ℕ) → ((j : ℕ) → p j ≡ false) → least_to p n ≡ None
+pub none_passes : (p : ℕ → Bool) (n : ℕ) → ((j : ℕ) → p j ≡ false) → least_to p n ≡ None
 none_passes p n nay = above p n (suc n) (λ j ne. nay j) (omega arith)
 
 -- ---- the owner at the opening
 
-abbrev has_it : Option Status → Bool
+abbrev pub has_it : Option Status → Bool
 has_it e = is_active e || is_pinned e || is_sending e
 
 serving_has : (e : Option Status) → IsServing e → has_it e ≡ true
@@ -95,7 +95,7 @@ pub record HasOwner (n : ℕ) (entry : ℕ → Option Status) : Type 0 where
   pub is : owner_at entry n ≡ Some owner
   pub placed : IsPlaced owner entry
 
-has_owner : (n : ℕ) (entry : ℕ → Option Status) → ((x : ℕ) → entry x ≢ None → is_to n x ≡ true) → ((x y : ℕ) → names (entry x) ≡ Some y → y ≢ x) → IsServed entry ⊎ IsSending entry ⊎ IsReceiving entry → HasOwner n entry
+pub has_owner : (n : ℕ) (entry : ℕ → Option Status) → ((x : ℕ) → entry x ≢ None → is_to n x ≡ true) → ((x y : ℕ) → names (entry x) ≡ Some y → y ≢ x) → IsServed entry ⊎ IsSending entry ⊎ IsReceiving entry → HasOwner n entry
 has_owner n entry within apart (inl v) =
     let there : entry v.at ≢ None = λ e. subst IsServing e v.serving in
     let k = within v.at there in
@@ -171,8 +171,7 @@ has_owner n entry within apart (inr (inr v)) =
 -- ---- the whole
 
 abbrev pub or_zero : Option ℕ → ℕ
-or_zero None = 0
-or_zero (Some o) = o
+or_zero o = unwrap_or o 0
 
 nothing : {A : Type 0} (i : ℕ) (x : A) → slice_get [] i ≡ Some x → ⊥
 nothing {A} i x h = elim (slice_get_cases {X = A} [] i).1 [ inl g ↦ absurd (omega (arith, g.1)) | inr g ↦ absurd (cc (h, g.1)) ]

@@ -1,6 +1,6 @@
 -- What holds inside holds of each reached state, by one induction; and so do the laws.
 use Rattle.std.proofs.Common.{◌≡◌, ℕ, inl, inr, ◌≤◌, arith, Bool, true, false, refl, sym, ap, subst, ◌∙◌, List, [], ◌∷◌, ◌++◌, Option, Some, None, Ok}
-use Rattle.std.specs.Prelude.{◌≢◌, ◌⊎◌, ◌&&◌, ◌==◌}
+use Rattle.std.specs.Prelude.{◌≢◌, ◌⊎◌, ◌↔◌, ◌&&◌, ◌==◌}
 use Rattle.std.proofs.lemmas.Bool.{eqb-true}
 use Rattle.std.proofs.lemmas.Bool.Decides.{nat_tests}
 use Rattle.vs_base.specs.declared.numbers.Mode.{Mode}
@@ -21,7 +21,7 @@ use Rattle.vs_machine.specs.State.{State, Bucket, Client, next_call, holds, is_c
 use Rattle.vs_machine.specs.Step.{step, run}
 use Rattle.vs_machine.specs.Coherence.{IsServing, IsAway, IsServed, IsSending, HasSent, IsReceiving, owners}
 use Rattle.vs_machine.specs.Kinds.Calls.{verdict_at, place_by, place_of}
-use Rattle.vs_machine.specs.Laws.{ReachesOn, CoherentRuns, OneAccepts, LegalRuns, AnsweredRuns, PresentRuns, OrderedRuns, FreshRuns, FrozenRuns, RefusedRuns}
+use Rattle.vs_machine.specs.Laws.{ReachesOn, CoherentRuns, OneAccepts, LegalRuns, AnsweredRuns, OrderedRuns, FreshRuns, FrozenRuns, RefusedRuns}
 use Rattle.vs_machine.specs.History.{IsFreshPlace}
 use Rattle.vs_machine.specs.Runs.{IsReached}
 use Rattle.vs_machine.specs.Whole.{Inner, Whole}
@@ -77,7 +77,7 @@ sent_to o z (Some Active) h = absurd h
 sent_to o z (Some Pinned) h = absurd h
 sent_to o z (Some (Sending d)) h = absurd h
 
-placed_by : (o : ℕ) (entry : ℕ → Option Status) → 1 ≤ o → IsPlaced o entry → (has : Option Status) → entry o ≡ has → IsServed entry ⊎ IsSending entry ⊎ IsReceiving entry
+pub placed_by : (o : ℕ) (entry : ℕ → Option Status) → 1 ≤ o → IsPlaced o entry → (has : Option Status) → entry o ≡ has → IsServed entry ⊎ IsSending entry ⊎ IsReceiving entry
 placed_by o entry real p (Some Active) at = inl (record {
   at = o;
   serving = subst IsServing (sym at) tt;
@@ -143,9 +143,6 @@ legal_runs s r b =
 
 pub answered_runs : AnsweredRuns
 answered_runs s r = (reached_whole s r).1.answers.answered
-
-pub present_runs : PresentRuns
-present_runs s r = (reached_whole s r).1.answers.present
 
 pub ordered_runs : OrderedRuns
 ordered_runs s r = (reached_whole s r).1.order.kept
@@ -223,14 +220,15 @@ unreferenced_where own s m x b i none = counts_none (λ c. holds m x b (s.client
 -- ---- refusals
 
 pub refused_runs : RefusedRuns
-refused_runs s t c x k cause h called at refused caused =
+refused_runs s t c x k cause h called at =
     let p = can_begin s t c h in
     let one : p.k ≡ k = cc (p.called, called) in
     let here : p.x ≡ x = cc (p.set, at) in
-    let present : (t.client c).present ≡ begun (s.client c).present (verdict_at s p.x p.k) = ap (λ (u : State). (u.client c).present) (sym p.gives) ∙ ap (λ (u : Client). u.present) (put_here s.client c (with_progress (s.client c) (begun (s.client c).present (verdict_at s p.x p.k)))) in
-    let said = by (verdict_at s p.x p.k) (ap (λ (q : Progress). q.stage) (sym present) ∙ refused) (ap (λ (q : Progress). q.cause) (sym present) ∙ caused) in
-    subst (λ z. verdict_at s z k ≡ verdict.Refused cause) here (subst (λ q. verdict_at s p.x q ≡ verdict.Refused cause) one said)
+    let verdict_is : verdict_at s p.x p.k ≡ verdict_at s x k = ap (λ z. verdict_at s z p.k) here ∙ ap (verdict_at s x) one in
+    let present : (t.client c).present ≡ begun (s.client c).present (verdict_at s x k) =
+    ap (λ (u : State). (u.client c).present) (sym p.gives) ∙ ap (λ (u : Client). u.present) (put_here s.client c (with_progress (s.client c) (begun (s.client c).present (verdict_at s p.x p.k)))) ∙ ap (begun (s.client c).present) verdict_is in
+    subst (λ (q : Progress). ((q.stage ≡ stage.Refused) × (q.cause ≡ Some cause)) ↔ (verdict_at s x k ≡ verdict.Refused cause)) (sym present) (by (verdict_at s x k))
   where
-    by : (v : Verdict) → (begun (s.client c).present v).stage ≡ stage.Refused → (begun (s.client c).present v).cause ≡ Some cause → v ≡ verdict.Refused cause
-    by verdict.Granted e g = absurd cc
-    by (verdict.Refused d) e g = let same : d ≡ cause = cc in ap (λ q. verdict.Refused q) same
+    by : (v : Verdict) → (((begun (s.client c).present v).stage ≡ stage.Refused) × ((begun (s.client c).present v).cause ≡ Some cause)) ↔ (v ≡ verdict.Refused cause)
+    by verdict.Granted = (λ h. absurd (cc (h.0)), λ h. absurd (cc h))
+    by (verdict.Refused d) = (λ h. let same : d ≡ cause = cc (h.1) in ap (λ q. verdict.Refused q) same, λ h. let same : d ≡ cause = cc h in (refl, ap (λ q. Some q) same))

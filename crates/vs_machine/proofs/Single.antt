@@ -15,7 +15,7 @@ use Rattle.vs_machine.specs.Inner.Once.{IdsFit, all_entries}
 use Rattle.vs_machine.proofs.Reached.{reached_whole}
 
 -- what holds of each element holds of this one
-at_place : (P : Entry → Type 0) (es : List Entry) (n : ℕ) (e : Entry) → slice_get es n ≡ Some e → All P es → P e
+pub at_place : (P : Entry → Type 0) (es : List Entry) (n : ℕ) (e : Entry) → slice_get es n ≡ Some e → All P es → P e
 at_place P es n e at all = subst P (get_or_from_slice_get es n e e at) (all n e (slice_get_within es n e at))
 
 one_place : (es : List Entry) (m n : ℕ) (e f : Entry) → IsOnce es → slice_get es m ≡ Some e → slice_get es n ≡ Some f → e.id ≡ f.id → m ≡ n
@@ -26,17 +26,17 @@ one_place (x ∷ es) (suc m) zero e f once at to is = let here : x ≡ f = cc in
 one_place (x ∷ es) (suc m) (suc n) e f once at to is = ap suc (one_place es m n e f once.1 at to is)
 
 -- an entry is a call of its script, which is of one bucket
-abbrev IsCalled : (ℕ → List Call) → ℕ → Entry → Type 0
+abbrev pub IsCalled : (ℕ → List Call) → ℕ → Entry → Type 0
 IsCalled scripts b e = (mode : Mode) × IsCallOf scripts b mode e
 
-all_called : (cs : ℕ → Client) (b : ℕ) (h : History) → IdsFit cs b h → All (IsCalled (λ c. (cs c).script) b) (all_entries h)
+pub all_called : (cs : ℕ → Client) (b : ℕ) (h : History) → IdsFit cs b h → All (IsCalled (λ c. (cs c).script) b) (all_entries h)
 all_called cs b h f =
     let scripts : ℕ → List Call = λ c. (cs c).script in
     All-append (IsCalled scripts b) h.writes h.reads
     (All-weaker (IsCallOf scripts b Rw) (IsCalled scripts b) (λ e g. (Rw, g)) h.writes f.writes_called)
     (All-weaker (IsCallOf scripts b Ro) (IsCalled scripts b) (λ e g. (Ro, g)) h.reads f.reads_called)
 
-one_call : (k l : Call) → Some k ≡ Some l → k ≡ l
+pub one_call : (k l : Call) → Some k ≡ Some l → k ≡ l
 one_call k l h = cc
 
 one_bucket : (scripts : ℕ → List Call) (b d : ℕ) (e f : Entry) → IsCalled scripts b e → IsCalled scripts d f → e.id ≡ f.id → b ≡ d

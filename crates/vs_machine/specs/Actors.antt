@@ -60,11 +60,18 @@ IsLeftAside s (NotYet x b) = Unit {0}
 IsLeftAside s (Ask x b) = IsBeingSentTo s x b
 IsLeftAside s e = ⊥
 
-pub record HasEvent (s : State) (actor : Actor) : Type 0 where
-  pub event : Event
-  pub its_own : IsOf actor event
-  pub possible : IsOk (step s event)
-  pub chosen : ¬ (IsLeftAside s event)
+abbrev pub IsPossible : State → Event → Type 0
+IsPossible s e = IsOk (step s e)
+
+-- the event is one of the actor's own that can happen, and isn't left aside
+pub record IsChoice (s : State) (actor : Actor) (e : Event) : Type 0 where
+  pub its_own : IsOf actor e
+  pub possible : IsPossible s e
+  pub wanted : ¬ (IsLeftAside s e)
+
+-- the actor has such an event
+abbrev pub HasEvent : State → Actor → Type 0
+HasEvent s actor = (e : Event) × IsChoice s actor e
 
 -- no call is at a set, and no operator, no mover and no service of a set that is up has an event
 pub record IsStill (s : State) : Type 0 where

@@ -1,5 +1,5 @@
 -- What holds of every run from a coherent opening.
-use Rattle.std.specs.Prelude.{◌≡◌, ℕ, zero, suc, Bool, true, false, Option, Some, None, Ok, ◌+◌, ◌*◌, ◌≤◌, List, length, slice_get}
+use Rattle.std.specs.Prelude.{◌≡◌, ℕ, zero, suc, Bool, true, false, if◌then◌else◌, Option, Some, None, Ok, ◌+◌, ◌*◌, ◌≤◌, ◌↔◌, List, [], ◌∷◌, ◌++◌, length, slice_get}
 use Rattle.std.specs.List.{sum_by}
 use Rattle.vs_base.specs.declared.numbers.Mode.TheVariants.{Ro, Rw}
 use Rattle.vs_space.specs.declared.status.Cause.{Cause}
@@ -10,8 +10,11 @@ use Rattle.vs_calls.specs.Progress.{is_idle}
 use Rattle.vs_calls.specs.declared.stage.Stage.TheVariants as stage
 use Rattle.vs_event.specs.declared.event.Event.{Event}
 use Rattle.vs_event.specs.declared.event.Event.TheVariants.{Begin, Condemn, Wipe, Forget}
+use Rattle.vs_event.specs.declared.event.Recorded.{Recorded}
+use Rattle.vs_event.specs.Recorded.{event_of}
 use Rattle.vs_history.specs.History.{Entry, rows_at, write_count}
 use Rattle.vs_record.specs.Change.{Change}
+use Rattle.vs_record.specs.Durable.{Durable}
 use Rattle.vs_script.specs.Calls.{Call}
 use Rattle.vs_script.specs.declared.command.Command as declared_command
 use Rattle.vs_script.specs.declared.command.Command.TheVariants.{Send}
@@ -22,17 +25,23 @@ use Rattle.vs_machine.specs.State.{State, Client, Operator, sets_of, next_call, 
 use Rattle.vs_config.specs.Configuration.{Configuration}
 use Rattle.vs_machine.specs.Tables.{is_to, sum_to}
 use Rattle.vs_script.specs.Scripts.{Scripts}
-use Rattle.vs_machine.specs.Opening.{Holdings, opening}
+use Rattle.vs_machine.specs.declared.outcome.CommandOutcome.{CommandOutcome}
+use Rattle.vs_machine.specs.Causes.Calls.{WasAnswered}
+use Rattle.vs_machine.specs.Causes.Commands.{IsAnsweredBy}
+use Rattle.vs_machine.specs.Causes.Moves.{IsCommandCaused}
+use Rattle.vs_machine.specs.Opening.{Holdings, IsLawful, opening}
 use Rattle.vs_machine.specs.Step.{step, run}
-use Rattle.vs_machine.specs.Coherence.{IsCoherent, AcceptsWrites, owners}
+use Rattle.vs_machine.specs.Coherence.{IsCoherent, AcceptsWrites, owners, handed_by}
 use Rattle.vs_machine.specs.History.{AreLegal, AreAnswered, KeepsCallerOrder, IsFresh, IsFrozenCopy}
 use Rattle.vs_machine.specs.Kinds.Calls.{verdict_at}
-use Rattle.vs_machine.specs.Kinds.Stops.{restarted}
-use Rattle.vs_machine.specs.Runs.{IsReached}
+use Rattle.vs_machine.specs.Kinds.Stops.{Recording, is_next_fault, restarted}
+use Rattle.vs_machine.specs.Owners.{owners_at, owners_of}
+use Rattle.vs_machine.specs.Runs.{IsOpening, IsReached}
+use Rattle.vs_machine.specs.Standing.{StandsBy}
 use Rattle.vs_machine.specs.Whole.{Whole}
-use Rattle.vs_machine.specs.Inner.Answers.{HasAnswers, HasStood}
 use Rattle.vs_machine.specs.Inner.Once.{all_entries}
 use Rattle.vs_machine.specs.Inputs.{HasInputs, SameInputs, HasFew, IsCallIn, IsCommandIn}
+use Rattle.vs_machine.specs.Journals.{durable_of, written, WritesRecorded, KeepsJournals, IsPending, MayFail, FitsSets, held_as}
 
 -- ---- every event
 
@@ -43,6 +52,14 @@ KeptByEvents = (own : ℕ → ℕ) (s t : State) (e : Event) → Whole own s →
 -- a reached state has the whole of it, for some owners of its buckets
 abbrev pub WholeRuns : Type 0
 WholeRuns = (s : State) → IsReached s → (own : ℕ → ℕ) × Whole own s
+
+-- and so it has for the owners that the events of its run give
+abbrev pub OwnedRuns : Type 0
+OwnedRuns = (s : State) (r : IsReached s) → Whole (owners_of s r) s
+
+-- for no others: the owner of a bucket is the set that its entries tell
+abbrev pub SingleOwners : Type 0
+SingleOwners = (own : ℕ → ℕ) (s : State) → Whole own s → own ≡ owners_at s
 
 -- a possible event from a reached state reaches the next
 abbrev pub ReachesOn : Type 0
@@ -73,9 +90,9 @@ SingleRuns = (s : State) → IsReached s → (b d m n : ℕ) (e f : Entry) → s
 abbrev pub AnsweredRuns : Type 0
 AnsweredRuns = (s : State) → IsReached s → AreAnswered s
 
--- a present call that has its answers stands with them
+-- where a present call stands: once where it acted, once at most where it was lost, and nowhere before
 abbrev pub PresentRuns : Type 0
-PresentRuns = (s : State) → IsReached s → (c : ℕ) (k : Call) → next_call (s.client c) ≡ Some k → HasAnswers (s.client c).present.stage → HasStood s c k
+PresentRuns = (s : State) → IsReached s → (c : ℕ) (k : Call) → next_call (s.client c) ≡ Some k → StandsBy s c k (s.client c).present.stage
 
 -- ---- order and freshness
 
@@ -154,12 +171,41 @@ chosen s keep (suc n) = let before = chosen s keep n in chosen_at before (suc n)
 abbrev pub ChoiceRuns : Type 0
 ChoiceRuns = (s : State) → IsReached s → (keep : ℕ → Bool) → IsCoherent (chosen s keep (sets_of s))
 
+-- the owners then: a change that is kept may hand a bucket over
+abbrev pub chosen_owners : (ℕ → ℕ) → State → (ℕ → Bool) → ℕ → ℕ → ℕ
+chosen_owners own s keep zero = own
+chosen_owners own s keep (suc n) =
+    let before = chosen_owners own s keep n in
+    if keep (suc n) then handed_by before ((chosen s keep n).pending (suc n)) else before
+
+-- for every choice of pending changes the state is reached, and has the whole of what holds inside
+abbrev pub ChosenWhole : Type 0
+ChosenWhole = (s : State) (r : IsReached s) (keep : ℕ → Bool) → IsReached (chosen s keep (sets_of s)) × Whole (chosen_owners (owners_of s r) s keep (sets_of s)) (chosen s keep (sets_of s))
+
 -- ---- refusals
 
--- a call is refused only with the verdict of the set that was asked
+-- a call is refused exactly where that is the verdict of the set that was asked
 abbrev pub RefusedRuns : Type 0
 RefusedRuns = (s t : State) (c x : ℕ) (k : Call) (cause : Cause) → step s (Begin c) ≡ Ok t → next_call (s.client c) ≡ Some k → (s.client c).present.set ≡ Some x
-    → (t.client c).present.stage ≡ stage.Refused → (t.client c).present.cause ≡ Some cause → verdict_at s x k ≡ verdict.Refused cause
+    → (((t.client c).present.stage ≡ stage.Refused) × ((t.client c).present.cause ≡ Some cause)) ↔ (verdict_at s x k ≡ verdict.Refused cause)
+
+-- an event answers an operator's next command exactly where it finds what that answer says
+abbrev pub AnsweredCommands : Type 0
+AnsweredCommands = (s t : State) (e : Event) (o : ℕ) (out : CommandOutcome) → step s e ≡ Ok t → ((t.operator o).answered ≡ (s.operator o).answered ++ out ∷ []) ↔ IsAnsweredBy s e o out
+
+-- ---- the answers of a run
+
+-- a call answered Reply ran and got that; one answered Lost was cut, or its set went down; one answered Spent was refused 128
+-- times, the last time for that cause
+abbrev pub CausedCalls : Type 0
+CausedCalls = (config : Configuration) (scripts : Scripts) (held : Holdings) (events : List Event) (s : State) → run (opening config scripts held) events ≡ Ok s
+    → (c n : ℕ) (o : Outcome) → slice_get (s.client c).answered n ≡ Some o → WasAnswered (opening config scripts held) events c (n + 1) o
+
+-- Of a bucket that was moved the receiver took the last message, and a move that was aborted had its cause. Any other answer was
+-- given by an event that found what it says.
+abbrev pub CausedCommands : Type 0
+CausedCommands = (config : Configuration) (scripts : Scripts) (held : Holdings) (events : List Event) (s : State) → IsOpening config scripts held → run (opening config scripts held) events ≡ Ok s
+    → (o m : ℕ) (out : CommandOutcome) → slice_get (s.operator o).answered m ≡ Some out → IsCommandCaused (opening config scripts held) events o m out
 
 -- ---- what a run is given
 
@@ -226,3 +272,29 @@ IsBegunBy n operators b x d (Haul o) = is_to n o ≡ true
 -- who began a transfer is there to be answered
 abbrev pub TransferRuns : Type 0
 TransferRuns = (s : State) → IsReached s → (b x : ℕ) (t : Transfer) → (s.bucket b).transfer x ≡ Some t → IsBegunBy s.operators s.operator b x t.dest t.by
+
+-- ---- journals
+
+-- what an event writes is what it records
+abbrev pub WrittenEvents : Type 0
+WrittenEvents = (s : State) → WritesRecorded s
+
+-- each event changes what the sets have by the change that it writes, at one set at most, and that change fits there
+abbrev pub WrittenRuns : Type 0
+WrittenRuns = (s t : State) (e : Event) → IsReached s → step s e ≡ Ok t → KeepsJournals s t e
+
+-- a pending change still fits what its set has
+abbrev pub PendingRuns : Type 0
+PendingRuns = (s : State) → IsReached s → (x : ℕ) (c : Change) → s.pending x ≡ Some c → IsPending s x c
+
+-- at the opening a set has what its journal holds
+abbrev pub OpenedHoldings : Type 0
+OpenedHoldings = (config : Configuration) (scripts : Scripts) (held : Holdings) (x : ℕ) → durable_of (opening config scripts held) x ≡ record { entry = held.entry x; rows = held.rows x }
+
+-- where a possible event writes, there may be a fault with the next number in its place
+abbrev pub FaultRuns : Type 0
+FaultRuns = (s t : State) (e : Recorded) (r : Recording) (n : ℕ) → IsReached s → step s (event_of e) ≡ Ok t → written s (event_of e) ≡ Some r → is_next_fault (s.last_fault r.at) n ≡ true → MayFail s e r n
+
+-- whatever the journals stand for that fits the sets, a run may begin with it again
+abbrev pub ReopenedRuns : Type 0
+ReopenedRuns = (s : State) → IsReached s → (d : ℕ → Durable) → FitsSets s d → (scripts : Scripts) → IsLawful s.config scripts → IsOpening s.config scripts (held_as d)

@@ -9,6 +9,7 @@ use Rattle.vs_link.specs.Connection.{Connection}
 use Rattle.vs_record.specs.Change.{Change, bucket_of}
 use Rattle.vs_machine.specs.Tables.{sum_to}
 use Rattle.vs_machine.specs.State.{State, Bucket, sets_of}
+use Rattle.vs_machine.specs.Kinds.Connections.{first_call, first_reply}
 use Rattle.vs_machine.specs.Kinds.Stops.{with_change}
 use Rattle.vs_machine.specs.Coherence.{IsServing}
 
@@ -18,8 +19,26 @@ pub record IsAtOne (entry : ℕ → Option Status) : Type 0 where
   pub serving : IsServing (entry at)
   pub only : (y : ℕ) → y ≢ at → entry y ≡ None
 
+-- all sets are up
+abbrev pub AreUp : State → Type 0
+AreUp s = (x : ℕ) → 1 ≤ x → x ≤ sets_of s → s.up x ≡ true
+
+-- no message and no reply stands first between two sets
+pub record HasNoMessage (s : State) (x y : ℕ) : Type 0 where
+  pub calls : first_call s x y ≡ None
+  pub replies : first_reply s x y ≡ None
+
+-- nothing lies on the connection
+pub record IsEmpty (l : Connection) : Type 0 where
+  pub calls : l.calls ≡ []
+  pub replies : l.replies ≡ []
+
+-- nothing lies on any connection
+abbrev pub IsSilent : State → Type 0
+IsSilent s = (x y : ℕ) → x ≢ y → IsEmpty (s.link x y)
+
 pub record IsSettled (s : State) : Type 0 where
-  pub up : (x : ℕ) → 1 ≤ x → x ≤ sets_of s → s.up x ≡ true
+  pub up : AreUp s
   pub placed : (b : ℕ) → 1 ≤ b → b ≤ s.config.bucket_count → IsAtOne (s.bucket b).entry
   pub no_transfer : (b x : ℕ) → (s.bucket b).transfer x ≡ None
   pub no_open_call : (c : ℕ) → (s.client c).present.stage ≡ Idle

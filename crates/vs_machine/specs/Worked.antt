@@ -2,6 +2,7 @@
 pub mod Cluster
 pub mod Commanded
 pub mod Moved
+pub mod Posted
 pub mod Recovered
 pub mod Stopped
 pub mod Waited

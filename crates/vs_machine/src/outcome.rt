@@ -5,7 +5,7 @@ use vs_send::AbortCause;
 use vs_space::Status;
 
 /// Why a command is refused.
-#[derive(Clone, Copy, Debug, PartialEq, Eq)]
+#[derive(Clone, Copy, Debug)]
 pub enum CommandFault {
     /// A bucket is to be moved from a set to itself.
     MoveToSelf,
@@ -22,7 +22,7 @@ pub enum CommandFault {
 }
 
 /// What a command is answered.
-#[derive(Clone, Copy, Debug, PartialEq, Eq)]
+#[derive(Clone, Copy)]
 pub enum CommandOutcome {
     /// The bucket was moved.
     Moved,

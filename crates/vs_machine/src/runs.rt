@@ -4,6 +4,7 @@ ghost use Rattle.vs_machine.specs.Worked.Moved.{Moved, Refused, ReadAcross, Held
 ghost use Rattle.vs_machine.specs.Worked.Waited.{Waited};
 ghost use Rattle.vs_machine.specs.Worked.Recovered.{Back, Forth};
 ghost use Rattle.vs_machine.specs.Worked.Recovered as recovered;
+ghost use Rattle.vs_machine.specs.Worked.Posted.{Posted};
 ghost use Rattle.vs_machine.specs.Worked.Stopped.{Failed, CutCalls, Spent};
 ghost use Rattle.vs_machine.specs.Worked.Commanded.{Commanded, Locked};
 
@@ -38,4 +39,9 @@ pub fn stopped_runs()
 pub fn commanded_runs()
     ensures commanded { Commanded }
     ensures locked { Locked }
+{}
+
+/// A call follows an old hint: it's refused twice, and then replied to.
+pub fn posted_runs()
+    ensures { Posted }
 {}

@@ -132,7 +132,7 @@ one_link own bs ls x y l says opens a = record {
 pub open_sent : (l : Connection) (m : Message) (v : Ask) (b : ℕ) → IsOpen l v b → IsOpen (with_message l m) v b
 open_sent l m v b h = (h.0, λ e. elim (h.1 e) [ inl c ↦ inl (Contains-append_left l.calls ((record { sync = l.next; message = m }) ∷ []) _ c) | inr r ↦ inr r ])
 
-nowhere : {A : Type 0} {y : A} → Contains [] y → ⊥
+pub nowhere : {A : Type 0} {y : A} → Contains [] y → ⊥
 nowhere c = absurd (omega (arith, c.1))
 
 -- one is the first of a list, or among the rest

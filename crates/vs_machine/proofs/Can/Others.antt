@@ -1,11 +1,15 @@
 -- What is known where an event of a connection, of recovery, of collection or of rebalancing is possible.
-use Rattle.std.proofs.Common.{◌≡◌, ℕ, true, false, refl, arith, drop, length, Option, Some, None, Ok}
-use Rattle.std.specs.Prelude.{◌&&◌, ◌==◌, not, nat_lt, is_none}
+use Rattle.std.proofs.Common.{◌≡◌, ℕ, Bool, true, false, refl, arith, drop, length, Option, Some, None, Result, Ok, Err, List, [], ◌∷◌}
+use Rattle.std.specs.Prelude.{◌&&◌, ◌==◌, not, nat_lt, is_some}
 use Rattle.std.proofs.lemmas.Bool.Decides.{nat_tests}
 use Rattle.vs_base.specs.declared.numbers.Mode.TheVariants.{Ro}
+use Rattle.vs_rows.specs.RowMap.{RowMap}
 use Rattle.vs_space.specs.declared.status.Status.{Status}
 use Rattle.vs_space.specs.declared.status.Status.TheVariants.{Active, Pinned, Sending, Receiving, Sent, Garbage}
+use Rattle.vs_event.specs.declared.reason.Reason.{Reason}
 use Rattle.vs_event.specs.declared.reason.Reason.TheVariants as reason
+use Rattle.vs_collect.specs.Collect.{condemned, wiped, forgotten}
+use Rattle.vs_collect.specs.declared.unmet.Unmet.{Unmet}
 use Rattle.vs_link.specs.Connection.{closed}
 use Rattle.vs_link.specs.Connection as link
 use Rattle.vs_link.specs.declared.message.Heard.{Heard}
@@ -14,10 +18,11 @@ use Rattle.vs_machine.specs.Tables.{least_to}
 use Rattle.vs_machine.specs.State.{State, sets_of, has_set, has_bucket, has_operator, next_command, references, put_bucket, put_link, put_operator, answer, with_entry, put_rows}
 use Rattle.vs_machine.specs.Kinds.Connections.{first_call, first_reply, deliver, after_deliver, hear, after_hear, connection_to_close, close, asked_set, is_null}
 use Rattle.vs_machine.specs.Kinds.Recovery.{may_ask, is_live, ask, after_ask}
-use Rattle.vs_machine.specs.Kinds.Collection.{is_sent, is_garbage, condemn, wipe, forget}
+use Rattle.vs_machine.specs.Check.{◌>>◌}
+use Rattle.vs_machine.specs.Kinds.Collection.{allowed, condemn, wipe, forget}
 use Rattle.vs_machine.specs.Kinds.Pinning.{Pinning, pinning_of, pinning_fault, pin, after_pin}
 use Rattle.vs_machine.specs.Kinds.Rebalancing.{left_on, hauls_at, haul, after_haul, bucket_to_haul, is_balance, is_spent, hauls_of, plan, plan_round}
-use Rattle.vs_machine.proofs.Possible.{needs_ok, wants_ok, ok_is, both_are, not_is, none_is}
+use Rattle.vs_machine.proofs.Possible.{needs_ok, wants_ok, ok_is, both_are, not_is}
 
 pub record CanDeliver (s : State) (x y : ℕ) (t : State) : Type 0 where
   pub from : has_set s x ≡ true
@@ -85,17 +90,49 @@ can_ask s t x b e =
 
 -- ---- collection
 
-sent_is : (e : Option Status) → is_sent e ≡ true → (d : ℕ) × (e ≡ Some (Sent d))
-sent_is (Some (Sent d)) h = (d, refl)
-sent_is None h = absurd cc
-sent_is (Some Active) h = absurd cc
-sent_is (Some Pinned) h = absurd cc
-sent_is (Some (Sending d)) h = absurd cc
-sent_is (Some (Receiving x)) h = absurd cc
-sent_is (Some Garbage) h = absurd cc
+allowed_ok : {A B : Type 0} (r : Result A Unmet) (rest : Result B Reason) (y : B) → (allowed r >> rest) ≡ Ok y → (x : A) × (r ≡ Ok x) × (rest ≡ Ok y)
+allowed_ok (Ok x) rest y e = (x, refl, e)
+allowed_ok (Err cause) rest y e = absurd cc
 
-garbage_is : (e : Option Status) → is_garbage e ≡ true → e ≡ Some Garbage
-garbage_is e h = grind arith
+-- a bucket that may be given up was sent, has no transfer, and no read holds it
+condemned_is : (e : Option Status) (live : Bool) (n : ℕ) (u : Unit {0}) → condemned e live n ≡ Ok u → (d : ℕ) × (e ≡ Some (Sent d)) × (live ≡ false) × (n ≡ 0)
+condemned_is (Some (Sent d)) false n u h = (d, refl, refl, grind (arith, nat_tests, h))
+condemned_is (Some (Sent d)) true n u h = absurd cc
+condemned_is None live n u h = absurd cc
+condemned_is (Some Active) live n u h = absurd cc
+condemned_is (Some Pinned) live n u h = absurd cc
+condemned_is (Some (Sending d)) live n u h = absurd cc
+condemned_is (Some (Receiving x)) live n u h = absurd cc
+condemned_is (Some Garbage) live n u h = absurd cc
+
+-- one that may be wiped is garbage, and has rows
+wiped_is : (e : Option Status) (rows : RowMap) (n : ℕ) → wiped e rows ≡ Ok n → (e ≡ Some Garbage) × (is_null rows ≡ false)
+wiped_is (Some Garbage) (row ∷ rows) n h = (refl, refl)
+wiped_is (Some Garbage) [] n h = absurd cc
+wiped_is None rows n h = absurd cc
+wiped_is (Some Active) rows n h = absurd cc
+wiped_is (Some Pinned) rows n h = absurd cc
+wiped_is (Some (Sending d)) rows n h = absurd cc
+wiped_is (Some (Receiving x)) rows n h = absurd cc
+wiped_is (Some (Sent d)) rows n h = absurd cc
+
+-- one that may be forgotten is garbage, and has none
+forgotten_is : (e : Option Status) (n : ℕ) (u : Unit {0}) → forgotten e n ≡ Ok u → (e ≡ Some Garbage) × (n ≡ 0)
+forgotten_is (Some Garbage) n u h = (refl, grind (arith, nat_tests, h))
+forgotten_is None n u h = absurd cc
+forgotten_is (Some Active) n u h = absurd cc
+forgotten_is (Some Pinned) n u h = absurd cc
+forgotten_is (Some (Sending d)) n u h = absurd cc
+forgotten_is (Some (Receiving x)) n u h = absurd cc
+forgotten_is (Some (Sent d)) n u h = absurd cc
+
+none_left : {A : Type 0} (xs : List A) → length xs ≡ 0 → is_null xs ≡ true
+none_left [] h = refl
+none_left (x ∷ xs) h = absurd (omega (arith, h))
+
+some_not : {A : Type 0} (o : Option A) → is_some o ≡ false → o ≡ None
+some_not None h = refl
+some_not (Some x) h = absurd cc
 
 pub record CanCondemn (s : State) (x b : ℕ) (t : State) : Type 0 where
   pub set : has_set s x ≡ true
@@ -112,12 +149,10 @@ can_condemn s t x b e =
     let old = s.bucket b in
     let g1 = needs_ok (has_set s x && has_bucket s b) reason.Unknown _ t e in
     let g2 = needs_ok (s.up x) (reason.Down x) _ t g1.1 in
-    let g3 = needs_ok (is_sent (old.entry x)) (reason.Unfit (old.entry x)) _ t g2.1 in
-    let g4 = needs_ok (is_none (old.transfer x)) reason.Live _ t g3.1 in
-    let g5 = needs_ok (references s Ro x b == 0) (reason.Referenced (references s Ro x b)) _ t g4.1 in
+    let g3 = allowed_ok (condemned (old.entry x) (is_some (old.transfer x)) (references s Ro x b)) _ t g2.1 in
     let known = both_are (has_set s x) (has_bucket s b) g1.0 in
-    let at = sent_is (old.entry x) g3.0 in
-    record { set = known.0; bucket = known.1; x_up = g2.0; d = at.0; sent = at.1; free = none_is _ g4.0; unheld = grind (arith, nat_tests, g5.0); gives = ok_is _ t g5.1 }
+    let at = condemned_is (old.entry x) (is_some (old.transfer x)) (references s Ro x b) g3.0 g3.1 in
+    record { set = known.0; bucket = known.1; x_up = g2.0; d = at.0; sent = at.1; free = some_not _ at.2; unheld = at.3; gives = ok_is _ t g3.2 }
 
 pub record CanWipe (s : State) (x b : ℕ) (t : State) : Type 0 where
   pub set : has_set s x ≡ true
@@ -132,10 +167,10 @@ can_wipe s t x b e =
     let old = s.bucket b in
     let g1 = needs_ok (has_set s x && has_bucket s b) reason.Unknown _ t e in
     let g2 = needs_ok (s.up x) (reason.Down x) _ t g1.1 in
-    let g3 = needs_ok (is_garbage (old.entry x)) (reason.Unfit (old.entry x)) _ t g2.1 in
-    let g4 = needs_ok (not (is_null (old.rows x))) reason.NoRows _ t g3.1 in
+    let g3 = allowed_ok (wiped (old.entry x) (old.rows x)) _ t g2.1 in
     let known = both_are (has_set s x) (has_bucket s b) g1.0 in
-    record { set = known.0; bucket = known.1; x_up = g2.0; garbage = garbage_is _ g3.0; some_rows = not_is _ g4.0; gives = ok_is _ t g4.1 }
+    let at = wiped_is (old.entry x) (old.rows x) g3.0 g3.1 in
+    record { set = known.0; bucket = known.1; x_up = g2.0; garbage = at.0; some_rows = at.1; gives = ok_is _ t g3.2 }
 
 pub record CanForget (s : State) (x b : ℕ) (t : State) : Type 0 where
   pub set : has_set s x ≡ true
@@ -150,10 +185,10 @@ can_forget s t x b e =
     let old = s.bucket b in
     let g1 = needs_ok (has_set s x && has_bucket s b) reason.Unknown _ t e in
     let g2 = needs_ok (s.up x) (reason.Down x) _ t g1.1 in
-    let g3 = needs_ok (is_garbage (old.entry x)) (reason.Unfit (old.entry x)) _ t g2.1 in
-    let g4 = needs_ok (is_null (old.rows x)) (reason.Rows (length (old.rows x))) _ t g3.1 in
+    let g3 = allowed_ok (forgotten (old.entry x) (length (old.rows x))) _ t g2.1 in
     let known = both_are (has_set s x) (has_bucket s b) g1.0 in
-    record { set = known.0; bucket = known.1; x_up = g2.0; garbage = garbage_is _ g3.0; no_rows = g4.0; gives = ok_is _ t g4.1 }
+    let at = forgotten_is (old.entry x) (length (old.rows x)) g3.0 g3.1 in
+    record { set = known.0; bucket = known.1; x_up = g2.0; garbage = at.0; no_rows = none_left _ at.1; gives = ok_is _ t g3.2 }
 
 -- ---- pins and rounds
 

@@ -1,5 +1,6 @@
-use Rattle.vs_machine.proofs.Reached.{legal_runs, answered_runs, present_runs}
+use Rattle.vs_machine.proofs.Reached.{legal_runs, answered_runs}
 use Rattle.vs_machine.proofs.Single.{single_runs}
+use Rattle.vs_machine.proofs.Standing.{present_runs}
 use Rattle.vs_machine.proofs.laws.legal_histories.Goals as goal
 
 pub returns : goal.returns
