@@ -3,7 +3,7 @@
 use vs_base::{Items, SetNo};
 
 /// How many buckets one set is to give another.
-#[derive(Clone, Copy, Debug, PartialEq, Eq)]
+#[derive(Clone, Copy, PartialEq, Eq)]
 pub struct Route {
     pub giver: SetNo,
     pub taker: SetNo,

@@ -84,7 +84,7 @@ impl BucketId {
 }
 
 /// The number of a client, from 1 to 64.
-#[derive(Clone, Copy, Debug, PartialEq, Eq, PartialOrd, Ord)]
+#[derive(Clone, Copy)]
 pub struct ClientNo {
     number: u8,
 }
@@ -122,7 +122,7 @@ impl ClientNo {
 }
 
 /// The number of an operator, from 1 to 16.
-#[derive(Clone, Copy, Debug, PartialEq, Eq, PartialOrd, Ord)]
+#[derive(Clone, Copy, PartialEq, Eq)]
 pub struct OpNo {
     number: u8,
 }
@@ -163,14 +163,14 @@ impl OpNo {
 pub type Ids = Items<BucketId>;
 
 /// A call of a client: the client, and the call's number in its script, from 1.
-#[derive(Clone, Copy, Debug, PartialEq, Eq)]
+#[derive(Clone, Copy)]
 pub struct CallId {
     pub client: ClientNo,
     pub call: u32,
 }
 
 /// Whether a call only reads, or may write.
-#[derive(Clone, Copy, Debug, PartialEq, Eq)]
+#[derive(Clone, Copy, PartialEq, Eq)]
 pub enum Mode {
     /// A read: `ro`.
     Ro,

@@ -5,7 +5,7 @@ use vs_rows::Answers;
 use vs_space::Cause;
 
 /// What a call was answered.
-#[derive(Debug, Drop)]
+#[derive(Drop)]
 pub enum Outcome {
     /// It acted at this place of its bucket's history, with these answers.
     Reply(u64, Answers),

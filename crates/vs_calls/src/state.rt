@@ -14,7 +14,7 @@ use vs_rows::Answers;
 use vs_space::{Cause, Verdict};
 
 /// The present call of one client. No call takes memory.
-#[derive(Debug, Drop)]
+#[derive(Drop)]
 pub struct CallState {
     number: u32,
     stage: Stage,

@@ -8,7 +8,7 @@ use uuid::Uuid;
 use vs_base::NoMemory;
 
 /// The configuration of a cluster, after the keys of the same names in vshard's.
-#[derive(Debug, Drop)]
+#[derive(Drop)]
 pub struct Config {
     /// How many buckets the cluster has, from 1 to 30,000.
     pub bucket_count: u32,
@@ -24,7 +24,7 @@ pub struct Config {
 }
 
 /// The configuration of one set, which is one replica set of vshard.
-#[derive(Clone, Copy, Debug, PartialEq, Eq)]
+#[derive(Clone, Copy)]
 pub struct SetConfig {
     /// What names the set in its journal. No two sets of a cluster have the same.
     pub uuid: Uuid,

@@ -9,7 +9,7 @@ use std::marker::Model;
 use vs_base::{Items, NoMemory};
 
 /// A list of at most 32 sets, and room for more. The set of index 0 has number 1.
-#[derive(Debug, Drop)]
+#[derive(Drop)]
 pub struct SetList {
     sets: Items<SetConfig>,
 }

@@ -1,7 +1,7 @@
 use crate::gate::Gate;
 
 /// The gate that lets everyone through at once.
-#[derive(Clone, Copy, Debug, Default)]
+#[derive(Clone, Copy, Default)]
 pub struct OpenGate;
 
 impl Gate for OpenGate {

@@ -6,7 +6,7 @@ use vs_base::{CallId, NoMemory};
 use vs_rows::{Answers, Ops, copy_answers};
 
 /// A call that acted on the bucket.
-#[derive(Debug, Drop)]
+#[derive(Drop)]
 pub struct Entry {
     pub id: CallId,
     pub ops: Ops,

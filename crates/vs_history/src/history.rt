@@ -12,7 +12,7 @@ use vs_rows::{Answers, Ops, Rows};
 
 /// The rows of a bucket at opening, and the calls that acted on it. Only `reserve` and `rows_at`
 /// take memory.
-#[derive(Debug, Drop)]
+#[derive(Drop)]
 pub struct History {
     base: Rows,
     writes: Items<Entry>,

@@ -23,7 +23,7 @@ fn copy_calls(calls: &[Posted], line: &mut VecDeque<Posted>) -> Result<(), NoMem
 
 /// A connection from one set to another: a line of messages, and a line of the replies to them. There is always room
 /// for the reply to each message that was posted.
-#[derive(Debug, Drop)]
+#[derive(Drop)]
 pub struct Connection {
     epoch: u64,
     next: u64,

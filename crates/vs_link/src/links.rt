@@ -16,7 +16,7 @@ use vs_base::{NoMemory, SetNo};
 ///
 /// Each is a line of messages and a line of the replies to them: what came first is taken first. Contracts see, beside
 /// the two lines, how many messages were taken and aren't answered, and for how many more there is room.
-#[derive(Debug, Drop)]
+#[derive(Drop)]
 pub struct Links {
     sets: u8,
     connections: Vec<Connection>,

@@ -8,7 +8,7 @@ use vs_rows::Page;
 use vs_space::Reply;
 
 /// A message from a set to another.
-#[derive(Debug, Drop)]
+#[derive(Drop)]
 pub enum Msg {
     /// The next rows of a bucket.
     Chunk(BucketId, Page),
@@ -19,14 +19,14 @@ pub enum Msg {
 }
 
 /// A message with its number on the connection.
-#[derive(Debug, Drop)]
+#[derive(Drop)]
 pub struct Posted {
     pub sync: u64,
     pub msg: Msg,
 }
 
 /// The reply to the message of this number.
-#[derive(Clone, Copy, Debug, PartialEq, Eq)]
+#[derive(Clone, Copy)]
 pub struct Heard {
     pub sync: u64,
     pub bucket: BucketId,
@@ -34,7 +34,7 @@ pub struct Heard {
 }
 
 /// Nothing stands in the line.
-#[derive(Clone, Copy, Debug, PartialEq, Eq)]
+#[derive(Clone, Copy, Debug)]
 pub struct Empty;
 
 impl Msg {

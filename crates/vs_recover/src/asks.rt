@@ -9,7 +9,7 @@ use vs_table::Table;
 
 /// The asks of a set: for a bucket, the epoch and the sync number with which the other set of its
 /// transfer was asked. Contracts see the asks, and for how many more there is memory.
-#[derive(Debug, Drop)]
+#[derive(Drop)]
 pub struct Asks {
     table: Table<BucketId, (u64, u64)>,
 }

@@ -6,7 +6,7 @@ ghost use Rattle.vs_recover.specs.Decision.{decision_of};
 use vs_space::Status;
 
 /// What becomes of a bucket's status.
-#[derive(Clone, Copy, Debug, PartialEq, Eq)]
+#[derive(Clone, Copy, PartialEq, Eq)]
 pub enum Decision {
     /// It stays as it is.
     Stay,

@@ -1,7 +1,7 @@
 //! What a message that was taken did.
 
 /// What a message that was taken did.
-#[derive(Clone, Copy, Debug, PartialEq, Eq)]
+#[derive(Clone, Copy)]
 pub enum Took {
     /// The first rows came: the bucket is now being received from the sender.
     Created,

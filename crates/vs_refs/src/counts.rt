@@ -6,7 +6,7 @@ use vs_base::Mode;
 
 /// The references of one bucket at one set, as a storage of vshard counts them: the calls that are
 /// running, by their mode, and the locks.
-#[derive(Clone, Copy, Debug, Default, PartialEq, Eq)]
+#[derive(Clone, Copy, Default, PartialEq, Eq)]
 pub struct Counts {
     /// How many reads are running.
     pub ro: u32,

@@ -14,7 +14,7 @@ pub struct Locked;
 
 /// The references of all buckets of a set. Contracts see the buckets' counts, and for how many more
 /// buckets there is memory.
-#[derive(Debug, Drop)]
+#[derive(Drop)]
 pub struct Refs {
     table: Table<BucketId, Counts>,
 }

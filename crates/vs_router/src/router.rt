@@ -13,7 +13,7 @@ use vs_space::Cause;
 
 /// The set that a router takes a bucket to be at, and whether that is a hint: a destination that a
 /// refusal named.
-#[derive(Clone, Copy, Debug, PartialEq, Eq)]
+#[derive(Clone, Copy)]
 pub struct Known {
     pub set: SetNo,
     pub hint: bool,
@@ -21,7 +21,7 @@ pub struct Known {
 
 /// The router of a client. As in vshard it caches where buckets are, and refusals correct it.
 /// Contracts see what is cached for each bucket, in the buckets' order.
-#[derive(Debug, Drop)]
+#[derive(Drop)]
 pub struct Router {
     known: Vec<Option<Known>>,
 }

@@ -5,7 +5,7 @@ ghost use Rattle.std.specs.Prelude.{◌≡◌, ◌&&◌};
 use vs_base::SetNo;
 
 /// What a set says of a bucket: whether the set is up, and whether it serves the bucket.
-#[derive(Clone, Copy, Debug, PartialEq, Eq)]
+#[derive(Clone, Copy)]
 pub struct SetSaid {
     pub set: SetNo,
     pub up: bool,

@@ -4,7 +4,7 @@ use vs_base::SetNo;
 use vs_space::RecvFault;
 
 /// Why a transfer is given up.
-#[derive(Clone, Copy, Debug, PartialEq, Eq)]
+#[derive(Clone, Copy, Debug)]
 pub enum AbortCause {
     /// It waited 256 turns, and a write is still running.
     Drained,

@@ -11,7 +11,7 @@ use vs_rows::Key;
 use vs_space::{RecvFault, Reply};
 
 /// Who began a transfer.
-#[derive(Clone, Copy, Debug, PartialEq, Eq)]
+#[derive(Clone, Copy)]
 pub enum By {
     /// The `send` command of this operator.
     Command(OpNo),
@@ -20,7 +20,7 @@ pub enum By {
 }
 
 /// How far a transfer has come.
-#[derive(Debug, Drop)]
+#[derive(Drop)]
 pub enum Phase {
     /// It waits for the running writes, since so many turns.
     Draining(u16),
@@ -41,7 +41,7 @@ pub enum Phase {
 }
 
 /// A transfer of a bucket, as its source sees it. No call takes memory.
-#[derive(Debug, Drop)]
+#[derive(Drop)]
 pub struct Transfer {
     /// The set that the bucket is moved to.
     pub dest: SetNo,

@@ -6,7 +6,7 @@ ghost use Rattle.vs_space.specs.Status.{MayChange};
 use crate::status::Status;
 
 /// The change of a status that isn't one of those allowed, with the status as it is.
-#[derive(Clone, Copy, Debug, PartialEq, Eq)]
+#[derive(Clone, Copy, Debug)]
 pub struct NotAllowed(pub Option<Status>);
 
 /// Whether a bucket's status, or its having no entry, may become `new`.

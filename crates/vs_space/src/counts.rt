@@ -7,7 +7,7 @@ ghost use Rattle.vs_space.specs.Status.{kind_of};
 use crate::status::{Status, StatusKind};
 
 /// A number for each kind of status.
-#[derive(Clone, Copy, Debug)]
+#[derive(Clone, Copy)]
 pub struct KindCounts {
     active: u32,
     pinned: u32,

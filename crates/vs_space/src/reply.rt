@@ -17,7 +17,7 @@ pub enum RecvFault {
 }
 
 /// What a set answers to a message.
-#[derive(Clone, Copy, Debug, PartialEq, Eq)]
+#[derive(Clone, Copy)]
 pub enum Reply {
     /// The rows, or the last message, were taken.
     Took,

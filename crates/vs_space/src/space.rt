@@ -43,7 +43,7 @@ fn table(
 
 /// The status of each bucket at one set: the space `_bucket` of vshard. Contracts see the entries, in order of the
 /// buckets, and for how many more there is room.
-#[derive(Debug, Drop)]
+#[derive(Drop)]
 pub struct Space {
     places: Vec<Option<Status>>,
     counts: KindCounts,

@@ -20,7 +20,7 @@ pub enum Status {
 }
 
 /// The six statuses, without their sets.
-#[derive(Clone, Copy, Debug, PartialEq, Eq)]
+#[derive(Clone, Copy)]
 pub enum StatusKind {
     Active,
     Pinned,
@@ -44,7 +44,7 @@ pub enum Cause {
 }
 
 /// What a set that is up answers to a call.
-#[derive(Clone, Copy, Debug, PartialEq, Eq)]
+#[derive(Clone, Copy, PartialEq, Eq)]
 pub enum Verdict {
     Granted,
     Refused(Cause),

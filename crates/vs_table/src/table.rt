@@ -13,7 +13,7 @@ use vs_base::NoMemory;
 
 /// A map from keys to values, kept in the order of its keys, with room for more. Contracts see the
 /// entries, which rise by key, and for how many more there is memory.
-#[derive(Debug, Drop)]
+#[derive(Drop)]
 pub struct Table<K: Ord, V> {
     entries: Vec<(K, V)>,
 }
