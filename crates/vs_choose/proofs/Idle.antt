@@ -1,6 +1,6 @@
 -- Where an event of a service isn't possible.
 use Rattle.std.proofs.Common.{◌≡◌, ℕ, ◌+◌, ◌≤◌, Bool, true, Option, Some, None, Result, Ok, Err, refl, sym, ap, subst, ◌∙◌, arith, inl, inr}
-use Rattle.std.specs.Prelude.{◌⊎◌, ◌==◌, IfNone, IsTrue}
+use Rattle.std.specs.Prelude.{◌⊎◌, ◌↔◌, ◌==◌, IfNone, IsOk, IsTrue}
 use Rattle.std.proofs.lemmas.Bool.Decides.{nat_tests}
 use Rattle.vs_space.specs.declared.status.Status.{Status}
 use Rattle.vs_space.specs.declared.status.Status.TheVariants as status
@@ -10,6 +10,8 @@ use Rattle.vs_event.specs.declared.event.Event.{Event}
 use Rattle.vs_event.specs.declared.event.Event.TheVariants as event
 use Rattle.vs_event.specs.declared.event.RestartBy.TheVariants.{Line, Service}
 use Rattle.vs_event.specs.declared.reason.Reason.{Reason}
+use Rattle.vs_machine.specs.Actors as actors
+use Rattle.vs_machine.specs.Actors.{HasEvent, IsLeftAside, IsOf, IsPossible}
 use Rattle.vs_machine.specs.Tables.{is_to}
 use Rattle.vs_machine.specs.State.{State, has_bucket}
 use Rattle.vs_machine.specs.Kinds.Connections.{asked_set}
@@ -19,7 +21,7 @@ use Rattle.vs_machine.proofs.Counts.{none_counted}
 use Rattle.vs_machine.proofs.Can.Others.{can_ask, can_condemn, can_wipe, can_forget}
 use Rattle.vs_state.specs.Guard.{verdict}
 use Rattle.vs_state.specs.Statuses.{has_kind, number_at}
-use Rattle.vs_choose.specs.Service.{IsOfService, IsLeftAside, IsPossible, IsIdleAt}
+use Rattle.vs_choose.specs.Service.{IsIdleAt}
 
 -- ---- numbers
 
@@ -45,9 +47,14 @@ none_then (Some x) h then = h
 
 -- ---- the state after an event that is possible
 
-gives : (r : Result State Reason) → verdict r ≡ Ok tt → (t : State) × (r ≡ Ok t)
+gives : (r : Result State Reason) → IsOk r → (t : State) × (r ≡ Ok t)
 gives (Ok t) possible = (t, refl)
 gives (Err e) possible = absurd (cc possible)
+
+-- the verdict says whether it is possible
+pub told : (r : Result State Reason) → IsOk (verdict r) ↔ IsOk r
+told (Ok t) = (λ h. h, λ h. h)
+told (Err e) = (λ h. h, λ h. h)
 
 -- ---- buckets are of the cluster
 
@@ -115,7 +122,7 @@ module _ (s : State) (x : ℕ)
     (replies : (y : ℕ) → IsPossible s (event.Hear x y) → ⊥)
     (restarts : (kept : Bool) → IsPossible s (event.Restart x kept Service) → ⊥)
     (buckets : (b : ℕ) → IsIdleAt s x b) where
-  pub idle : (e : Event) → IsOfService x e → IsPossible s e → IsLeftAside s e
+  idle : (e : Event) → IsOf (actors.Service x) e → IsPossible s e → IsLeftAside s e
   idle (event.Deliver y z) own possible = absurd (messages y (subst (λ (n : ℕ). IsPossible s (event.Deliver y n)) own possible))
   idle (event.Hear y z) own possible = absurd (replies z (subst (λ (n : ℕ). IsPossible s (event.Hear n z)) own possible))
   idle (event.Ask y b) own possible =
@@ -145,3 +152,6 @@ module _ (s : State) (x : ℕ)
   idle (event.Plan o) own possible = absurd own
   idle (event.Stop o) own possible = absurd own
   idle (event.Fault y n r) own possible = absurd own
+
+  pub no_event : HasEvent s (actors.Service x) → ⊥
+  no_event h = h.1.wanted (idle h.0 h.1.its_own h.1.possible)

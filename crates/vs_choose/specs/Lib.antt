@@ -1,4 +1,3 @@
 pub use Rattle.vs_core.specs.Core
-pub use Rattle.vs_machine.specs.Step
-pub use Rattle.vs_state.specs.Guard
+pub use Rattle.vs_machine.specs.Actors
 pub mod Service

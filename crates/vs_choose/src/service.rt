@@ -1,14 +1,12 @@
 //! What the service of a set does next.
 
-ghost use Rattle.std.specs.Prelude.{◌≡◌, ◌≤◌, ◌↔◌, ℕ, Bool, IsTrue, IfSome, IfNone, Ok};
-ghost use Rattle.vs_event.specs.declared.event.Event.{Event};
-ghost use Rattle.vs_machine.specs.State.{sets_of};
-ghost use Rattle.vs_machine.specs.Step.{step};
-ghost use Rattle.vs_state.specs.Guard.{verdict};
+ghost use Rattle.std.specs.Prelude.{◌≡◌, ◌↔◌, ℕ, Bool, IsTrue, IfSome, IfNone};
+ghost use Rattle.vs_machine.specs.Actors as actors;
+ghost use Rattle.vs_machine.specs.Actors.{HasEvent, IsChoice, IsLeftAside, IsOf, IsPossible};
 ghost use Rattle.vs_state.specs.Plain.{plain};
 ghost use Rattle.vs_state.specs.Sized.{IsSized, OnlyItsBuckets};
 ghost use Rattle.vs_core.specs.Core.{means};
-ghost use Rattle.vs_choose.specs.Service.{IsOfService, IsLeftAside, IsPossible, IsChoice, IsIdleAt};
+ghost use Rattle.vs_choose.specs.Service.{IsIdleAt};
 
 use vs_base::{BucketId, SetNo};
 use vs_core::Core;
@@ -24,20 +22,12 @@ fn is_possible(core: &Core, event: &Event) -> bool
     core.can(event).is_ok()
 }
 
-/// How many sets the cluster has.
-fn set_count(core: &Core) -> u8
-    ensures count { result ≡ sets_of (means core.now) }
-    ensures few { result ≤ 32 }
-{
-    core.state().config.sets.len() as u8
-}
-
 /// The set takes a message, from the lowest set of which one is under way.
 fn next_message(core: &Core, set: SetNo) -> Option<Event>
-    ensures some { IfSome result (IsChoice (means core.now) set) }
+    ensures some { IfSome result (IsChoice (means core.now) (actors.Service set)) }
     ensures none { IfNone result ((x : ℕ) → IsPossible (means core.now) (Event.Deliver x set) → ⊥) }
 {
-    for index in 0..set_count(core) {
+    for index in 0..core.state().set_count() {
         let from = SetNo::new(index + 1)?;
         let event = Event::Deliver(from, set);
         if is_possible(core, &event) {
@@ -49,10 +39,10 @@ fn next_message(core: &Core, set: SetNo) -> Option<Event>
 
 /// The set hears a reply, from the lowest set of which one is under way.
 fn next_reply(core: &Core, set: SetNo) -> Option<Event>
-    ensures some { IfSome result (IsChoice (means core.now) set) }
+    ensures some { IfSome result (IsChoice (means core.now) (actors.Service set)) }
     ensures none { IfNone result ((y : ℕ) → IsPossible (means core.now) (Event.Hear set y) → ⊥) }
 {
-    for index in 0..set_count(core) {
+    for index in 0..core.state().set_count() {
         let from = SetNo::new(index + 1)?;
         let event = Event::Hear(set, from);
         if is_possible(core, &event) {
@@ -64,7 +54,7 @@ fn next_reply(core: &Core, set: SetNo) -> Option<Event>
 
 /// The set comes up again, with its pending change where it has one.
 fn next_restart(core: &Core, set: SetNo) -> Option<Event>
-    ensures some { IfSome result (IsChoice (means core.now) set) }
+    ensures some { IfSome result (IsChoice (means core.now) (actors.Service set)) }
     ensures none { IfNone result ((kept : Bool)
         → IsPossible (means core.now) (Event.Restart set kept RestartBy.Service) → ⊥) }
 {
@@ -82,7 +72,7 @@ fn next_restart(core: &Core, set: SetNo) -> Option<Event>
 /// The one event that the bucket's status at the set leaves open. A question is left aside where the rows are still
 /// to come.
 fn open_event(state: &State, set: SetNo, bucket: BucketId) -> Option<Event>
-    ensures own { IfSome result (IsOfService set) }
+    ensures own { IfSome result (IsOf (actors.Service set)) }
     ensures wanted { IfSome result (λ e. IsLeftAside (plain state.now) e → ⊥) }
     ensures only { IfSome result (λ e. (IsPossible (plain state.now) e → ⊥)
         → IsIdleAt (plain state.now) set bucket) }
@@ -110,7 +100,7 @@ fn open_event(state: &State, set: SetNo, bucket: BucketId) -> Option<Event>
 
 /// What the set does next with a bucket.
 fn event_for(core: &Core, set: SetNo, bucket: BucketId) -> Option<Event>
-    ensures some { IfSome result (IsChoice (means core.now) set) }
+    ensures some { IfSome result (IsChoice (means core.now) (actors.Service set)) }
     ensures none { IfNone result (IsIdleAt (means core.now) set bucket) }
 {
     let event = open_event(core.state(), set, bucket)?;
@@ -136,7 +126,7 @@ fn is_quiet(state: &State, set: SetNo) -> bool
 
 /// What the set does next with the lowest bucket with which it has something to do.
 fn next_of_buckets(core: &Core, set: SetNo) -> Option<Event>
-    ensures some { IfSome result (IsChoice (means core.now) set) }
+    ensures some { IfSome result (IsChoice (means core.now) (actors.Service set)) }
     ensures none { IfNone result ((b : ℕ) → IsIdleAt (means core.now) set b) }
 {
     every_event();
@@ -159,13 +149,11 @@ fn next_of_buckets(core: &Core, set: SetNo) -> Option<Event>
 /// The first of these that is possible is chosen, and of the buckets the lowest. An answer may settle nothing until the
 /// other set has asked too, and then the same question is chosen again: so services are to act in turn.
 pub fn next_service(core: &Core, set: SetNo) -> Option<Event>
-    // It is an event of this service that can happen.
-    ensures some { IfSome result (λ e. IsOfService set e
-        × (verdict (step (means core.now) e) ≡ Ok tt) × (IsLeftAside (means core.now) e → ⊥)) }
+    // It is an event of this service that can happen, and isn't left aside.
+    ensures some { IfSome result (IsChoice (means core.now) (actors.Service set)) }
 
-    // There is none where no event of this service can happen, but for questions that are left aside.
-    ensures none { IfNone result ((e : Event) → IsOfService set e
-        → verdict (step (means core.now) e) ≡ Ok tt → IsLeftAside (means core.now) e) }
+    // There is none where there is no such event.
+    ensures none { IfNone result (HasEvent (means core.now) (actors.Service set) → ⊥) }
 {
     if let Some(event) = next_message(core, set) {
         return Some(event);

@@ -16,6 +16,7 @@ use Rattle.vs_machine.specs.Tables.{is_to}
 use Rattle.vs_machine.specs.Coherence.{IsServed, IsAway, IsServing, names}
 use Rattle.vs_machine.specs.Opening.{IsLawful}
 use Rattle.vs_machine.specs.Runs.{IsOpening}
+use Rattle.vs_script.specs.Lawful.{IsWithin}
 use Rattle.vs_script.specs.Scripts.{Scripts}
 use Rattle.vs_space.specs.declared.status.Status.TheVariants.{Active}
 use Rattle.vs_core.specs.Booted.{views_of, shares_of, gets, booted}
@@ -82,14 +83,14 @@ pub record AreShares (config : Configuration) : Type 0 where
   pub each : length (shares_of config) ≡ length config.sets
   pub all : sum (shares_of config) ≡ config.bucket_count
 
-pub are_shares : (config : Configuration) (scripts : Scripts) → IsLawful config scripts → AreShares config
-are_shares config scripts lawful =
+pub are_shares : (config : Configuration) → IsWithin 32 (length config.sets) → IsWithin 30000 config.bucket_count → AreShares config
+are_shares config sets buckets =
     let n = config.bucket_count in
-    let ideals = are_ideals n config.sets lawful.sets.1 lawful.buckets.1 in
+    let ideals = are_ideals n config.sets sets.1 buckets.1 in
     let zipped = all_ideals (λ v i. v.locked ≡ true → i ≡ v.count) n config.sets (shares_of config) ideals.kept.locked in
     record {
       each = zipped.0;
-      all = sym zipped.1 ∙ ideals.kept.unlocked ∙ unlocked n config.sets ∙ counts_all n config.sets lawful.sets.0;
+      all = sym zipped.1 ∙ ideals.kept.unlocked ∙ unlocked n config.sets ∙ counts_all n config.sets sets.0;
     }
 
 -- ---- each bucket from 1 to the sum of the shares is one set's
@@ -197,7 +198,7 @@ is_got shares x b first after upto = grind (arith, nat_tests, after, upto)
 
 module _ (config : Configuration) (scripts : Scripts) (lawful : IsLawful config scripts) where
   shares : AreShares config
-  shares = are_shares config scripts lawful
+  shares = are_shares config lawful.sets lawful.buckets
 
   -- an entry is of a set and of a bucket of the cluster
   within_sets : (x b : ℕ) → (booted config).entry x b ≢ None → (1 ≤ x) × (x ≤ length config.sets)

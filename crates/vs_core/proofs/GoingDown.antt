@@ -1,5 +1,5 @@
 -- The parts of a state are written where a set goes down.
-use Rattle.std.proofs.Common.{◌≡◌, ℕ, zero, suc, ◌+◌, ◌<◌, ◌≤◌, ◌==◌, Bool, true, false, List, [], length, Some, None, get_or, refl, sym, ap, subst, ◌∙◌, arith}
+use Rattle.std.proofs.Common.{◌≡◌, ℕ, suc, ◌+◌, ◌<◌, ◌≤◌, ◌==◌, Bool, true, false, List, [], length, Some, None, get_or, refl, sym, ap, subst, ◌∙◌, arith}
 use Rattle.std.specs.Prelude.{◌≢◌, ◌&&◌, not, slice_set, nat_le, if◌then◌else◌}
 use Rattle.std.specs.Option.{option_map}
 use Rattle.std.proofs.lemmas.Bool.{eqb-true, eqb-false}
@@ -26,7 +26,7 @@ use Rattle.vs_core.specs.Cells.{Cell}
 use Rattle.vs_core.specs.GoingDown.{IsCleared, ForgetsAt, moves_from, without_calls, without_lines, without_moves, without_tables}
 use Rattle.vs_core.specs.Keeps.{IsSound}
 use Rattle.vs_core.proofs.Frame.{put_same}
-use Rattle.vs_core.proofs.Made.{AreMade, past, there}
+use Rattle.vs_core.proofs.Made.{AreMade, there}
 use Rattle.vs_core.proofs.Numbered.{numbered_set}
 use Rattle.vs_core.proofs.Operators.{IsOperator, operator_is, operator_written, with_operator}
 use Rattle.vs_core.proofs.Agrees.{agrees_same}
@@ -77,32 +77,9 @@ plain_roomed s k t u within is same =
     ∙ ap (machine.put_operator (plain s) (suc k)) (same ∙ sym (operator_is s (suc k) k t u o))
     ∙ (λ i. record (plain s) { operator = put_same (plain s).operator (suc k) i })
 
--- up to the number n each operator can be answered
-abbrev pub HaveRoomTo : List OperatorTables → ℕ → Type 0
-HaveRoomTo items n = (o : ℕ) → o ≤ n → (t : OperatorTables) → numbered Some None items o ≡ Some t → 1 ≤ t.outcomes.room
-
-pub no_room : (items : List OperatorTables) → HaveRoomTo items 0
-no_room items o below t is = absurd (at o below is)
-  where
-    at : (o : ℕ) → o ≤ 0 → numbered Some None items o ≡ Some t → ⊥
-    at zero below is = cc is
-    at (suc k) below is = omega (arith, below)
-
-pub more_room : (items : List OperatorTables) (n : ℕ) (u : OperatorTables) → n < length items → 1 ≤ u.outcomes.room → HaveRoomTo items n → HaveRoomTo (slice_set items n u) (n + 1)
-more_room items n u within room before o below t is = by (o == suc n) refl (sym (ap (λ g. g o) (numbered_set Some None items n u within)) ∙ is)
-  where
-    by : (e : Bool) → (o == suc n) ≡ e → (if e then Some u else numbered Some None items o) ≡ Some t → 1 ≤ t.outcomes.room
-    by true e is = let same : u ≡ t = cc is in subst (λ (t : OperatorTables). 1 ≤ t.outcomes.room) same room
-    by false e is = before o (grind (arith, nat_tests, e, below)) t is
-
-pub all_room : (items : List OperatorTables) (n : ℕ) → length items ≤ n → HaveRoomTo items n → (o : ℕ) (t : OperatorTables) → numbered Some None items o ≡ Some t → 1 ≤ t.outcomes.room
-all_room items n whole room o t is = by (nat_le o n) refl
-  where
-    by : (e : Bool) → nat_le o n ≡ e → 1 ≤ t.outcomes.room
-    by true e = room o (grind (arith, nat_tests, e)) t is
-    by false e =
-        let behind : length items < o = grind (arith, nat_tests, e, whole) in
-        absurd (cc (past Some None items o behind, is))
+-- an operator can be answered
+abbrev pub HasRoom : OperatorTables → Type 0
+HasRoom t = 1 ≤ t.outcomes.room
 
 -- behind the number n the items are as they were
 abbrev pub AreAhead : {A : Type 0} → List A → List A → ℕ → Type 0

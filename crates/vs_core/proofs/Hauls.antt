@@ -1,6 +1,6 @@
 -- A round that moves a bucket.
-use Rattle.std.proofs.Common.{◌≡◌, ℕ, zero, suc, ◌≤◌, Bool, true, false, Option, Some, None, Ok, inl, inr, refl, sym, ap, subst, ◌∙◌, arith}
-use Rattle.std.specs.Prelude.{◌⊎◌, ◌&&◌, if◌then◌else◌}
+use Rattle.std.proofs.Common.{◌≡◌, ℕ, zero, suc, ◌≤◌, Bool, true, false, Option, Some, None, Ok, refl, sym, ap, ◌∙◌, arith}
+use Rattle.std.specs.Prelude.{◌&&◌, if◌then◌else◌}
 use Rattle.std.proofs.lemmas.Bool.Decides.{nat_tests}
 use Rattle.vs_machine.specs.State as machine
 use Rattle.vs_machine.specs.Tables.{is_to, least_to, or_else}
@@ -12,25 +12,6 @@ use Rattle.vs_core.proofs.Sender.{goes_on}
 -- ---- the least number that passes
 
 module _ (p : ℕ → Bool) where
-  at_or_below : (m n : ℕ) → m ≤ suc n → (m ≡ suc n) ⊎ (m ≤ n)
-  at_or_below m n le = grind arith
-
-  -- it stays the least of more numbers
-  least_stays : (m n k : ℕ) → m ≤ n → least_to p m ≡ Some k → least_to p n ≡ Some k
-  least_stays m zero k le h =
-      let none : m ≡ zero = omega arith in
-      subst (λ m. least_to p m ≡ Some k) none h
-  least_stays m (suc n) k le h = by (at_or_below m n le) (least_stays m n k)
-    where
-      by : (m ≡ suc n) ⊎ (m ≤ n) → (m ≤ n → least_to p m ≡ Some k → least_to p n ≡ Some k) → least_to p (suc n) ≡ Some k
-      by (inl same) before = subst (λ m. least_to p m ≡ Some k) same h
-      by (inr below) before = ap (λ o. or_else o (if p (suc n) then Some (suc n) else None)) (before below h)
-
-  pub least_found : (m n : ℕ) → least_to p m ≡ None → p (suc m) ≡ true → suc m ≤ n → least_to p n ≡ Some (suc m)
-  least_found m n none passes le =
-      let here : least_to p (suc m) ≡ Some (suc m) = ap (λ o. or_else o (if p (suc m) then Some (suc m) else None)) none ∙ ap (λ (t : Bool). or_else None (if t then Some (suc m) else None)) passes in
-      least_stays (suc m) n (suc m) le here
-
   least_within : (n k : ℕ) → least_to p n ≡ Some k → is_to n k ≡ true
   least_within zero k h = absurd (cc h)
   least_within (suc n) k h = by (least_to p n) (p (suc n)) (least_within n k) refl h

@@ -39,3 +39,9 @@ pub mod Arriving
 pub mod Delivering
 pub mod Raised
 pub mod Restarting
+pub mod Journaled
+pub mod Staying
+pub mod Roomy
+pub mod Coherent
+pub mod Opened
+pub mod Roomed

@@ -1,5 +1,5 @@
 -- What stop and fault are, where they are possible.
-use Rattle.std.proofs.Common.{◌≡◌, ℕ, Bool, true, false, Some, Ok, refl, sym, ap, ◌∙◌, arith}
+use Rattle.std.proofs.Common.{◌≡◌, ℕ, Bool, true, false, Some, None, Ok, refl, sym, ap, ◌∙◌, arith}
 use Rattle.std.specs.Prelude.{◌&&◌, if◌then◌else◌, option_map}
 use Rattle.std.proofs.lemmas.Bool.Decides.{nat_tests}
 use Rattle.vs_event.specs.declared.event.Recorded.{Recorded}
@@ -46,6 +46,14 @@ stop_operator s o h = grind (arith, h)
 module _ (s : machine.State) (x n : ℕ) (e : Recorded) (h : verdict (fault s x n e) ≡ Ok tt) where
   pub fault_set : machine.has_set s x ≡ true
   fault_set = let after = goes_on (fault s x n e) h in (can_fault s after.0 x n e after.1).set
+
+  -- something is recorded
+  pub fault_records : option_map (λ r. r.change) (recording_of s e) ≡ None → ⊥
+  fault_records none =
+      let after = goes_on (fault s x n e) h in
+      let can = can_fault s after.0 x n e after.1 in
+      let was : Some can.change ≡ None = sym (ap (option_map (λ r. r.change)) can.records) ∙ none in
+      absurd (cc was)
 
   -- it leaves the change that was recorded
   pub fault_is : (change : Change) → option_map (λ r. r.change) (recording_of s e) ≡ Some change → fault s x n e ≡ Ok (after_fault s x n change)

@@ -1,5 +1,5 @@
 -- What is known of each state before an event, and is kept by it.
-use Rattle.std.specs.Prelude.{◌≡◌, ℕ, ◌≤◌, true, false, Some}
+use Rattle.std.specs.Prelude.{◌≡◌, ℕ, ◌<◌, ◌≤◌, ◌-◌, ◌^◌, true, false, Some}
 use Rattle.vs_send.specs.declared.transfer.By.{By}
 use Rattle.vs_send.specs.declared.transfer.By.TheVariants.{Command, Haul}
 use Rattle.vs_send.specs.declared.transfer.Transfer.{Transfer}
@@ -37,3 +37,5 @@ pub record IsKnown (s : machine.State) : Type 0 where
   pub commands : (o : ℕ) (k : scripts.Command.Command) → machine.next_command (s.operator o) ≡ Some k → IsCommandIn s k
   pub inputs : HasInputs s
   pub within : IsWithinScripts s
+  -- a call has room for a number after its own
+  pub numbers : (c : ℕ) → (s.client c).present.number < 2 ^ 32 - 1

@@ -4,7 +4,11 @@ pub mod Booting
 pub mod Cells
 pub mod Core
 pub mod Keeps
+pub mod Opened
+pub mod Opening
 pub mod Ready
+pub mod Records
+pub mod Reserving
 pub mod Standing
 pub mod References
 pub mod Rooms

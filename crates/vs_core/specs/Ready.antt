@@ -1,8 +1,10 @@
 -- What stands ready for an event.
-use Rattle.std.specs.Prelude.{◌≡◌}
+use Rattle.std.specs.Prelude.{◌≡◌, ℕ, Option, Some, None}
 use Rattle.vs_event.specs.declared.event.Event.{Event}
 use Rattle.vs_event.specs.declared.event.Event.TheVariants as event
+use Rattle.vs_record.specs.Change.{change}
 use Rattle.vs_state.specs.declared.state.State.{State}
+use Rattle.vs_state.specs.Plain.{plain}
 use Rattle.vs_core.specs.declared.dispatch.Prepared.{Prepared}
 use Rattle.vs_core.specs.declared.kinds.fault.PreparedFault.{PreparedFault}
 use Rattle.vs_core.specs.declared.kinds.restart.PreparedRestart.{PreparedRestart}
@@ -13,11 +15,12 @@ use Rattle.vs_core.specs.Closing.{IsCloseReady}
 use Rattle.vs_core.specs.Delivering.{IsDeliverReady}
 use Rattle.vs_core.specs.Hauling.{IsHaulReady}
 use Rattle.vs_core.specs.Planning.{IsPlanReady}
+use Rattle.vs_core.specs.Records.{records}
 use Rattle.vs_core.specs.References.{HasReferenceRoom, IsBeginReady}
 use Rattle.vs_core.specs.Restarting.{IsRestartReady}
 use Rattle.vs_core.specs.Rooms.{HasAnswerRoom}
 use Rattle.vs_core.specs.Sending.{HasMessageRoom, HasPlaceRoom, IsAbortReady, IsChunkReady, IsEndReady, IsStartReady}
-use Rattle.vs_core.specs.Stopping.{IsFaultReady, IsStopReady}
+use Rattle.vs_core.specs.Stopping.{IsDownReady, IsFaultReady, IsStopReady}
 use Rattle.vs_core.specs.Taking.{IsTakeReady}
 
 -- the room in the tables, where nothing beside it has to be made
@@ -45,6 +48,16 @@ HasRoomFor s (event.Pin o) = HasAnswerRoom s o
 HasRoomFor s (event.Stop o) = IsStopReady s o
 HasRoomFor s e = ⊥
 
+-- room in the tables is all that the event needs
+abbrev pub HasNoParts : Event → Type 0
+HasNoParts (event.Act c) = ⊥
+HasNoParts (event.Chunk x b) = ⊥
+HasNoParts (event.Haul o x d) = ⊥
+HasNoParts (event.Plan o) = ⊥
+HasNoParts (event.Fault x n r) = ⊥
+HasNoParts (event.Restart x kept by) = ⊥
+HasNoParts e = Unit {0}
+
 -- the change of a set that goes down, or of one that is up again, where the event is such
 abbrev pub IsFaultReadyFor : State → Event → PreparedFault → Type 0
 IsFaultReadyFor s (event.Fault x n r) p = IsFaultReady s x n r p
@@ -63,3 +76,14 @@ IsReadyFor s e (prepared.Haul o x d p) = (e ≡ event.Haul o x d) × IsHaulReady
 IsReadyFor s e (prepared.Plan o p) = (e ≡ event.Plan o) × IsPlanReady s o p
 IsReadyFor s e (prepared.Fault p) = IsFaultReadyFor s e p
 IsReadyFor s e (prepared.Restart p) = IsRestartReadyFor s e p
+
+-- the event records this change, and the set at which it does can go down
+pub record CanFail (s : State) (e : Event) (p : PreparedFault) : Type 0 where
+  pub at : ℕ
+  pub recorded : records (plain s) e ≡ Some (record { at = at; change = change p.change })
+  pub down : IsDownReady s at
+
+-- the same, or it records nothing
+abbrev pub IsFailReady : State → Event → Option PreparedFault → Type 0
+IsFailReady s e None = records (plain s) e ≡ None
+IsFailReady s e (Some p) = CanFail s e p

@@ -5,7 +5,7 @@ ghost use Rattle.vs_machine.specs.Step.{step};
 ghost use Rattle.vs_state.specs.Guard.{verdict};
 ghost use Rattle.vs_state.specs.Plain.{plain};
 ghost use Rattle.vs_core.specs.Keeps.{IsKnown, IsSound};
-ghost use Rattle.vs_core.specs.Ready.{IsReadyFor, HasRoomFor};
+ghost use Rattle.vs_core.specs.Ready.{IsReadyFor, HasRoomFor, HasNoParts};
 
 use crate::kinds::act::{PreparedAct, act, reserve_act};
 use crate::kinds::ask::{ask, reserve_ask};
@@ -36,7 +36,7 @@ use vs_event::Event;
 use vs_state::State;
 
 /// What was made ahead for an event, beside the room in the tables.
-#[derive(Debug, Drop)]
+#[derive(Drop)]
 pub enum Prepared {
     Nothing,
     Act(ClientNo, PreparedAct),
@@ -52,6 +52,7 @@ fn reserve_room(state: &mut State, event: Event) -> Result<(), NoMemory>
     requires possible { verdict (step (plain state.old) event) ≡ Ok tt }
     requires known { IsKnown (plain state.old) }
     requires sound { IsSound state.old }
+    requires kind { HasNoParts event }
     ensures ready { OnOk result (HasRoomFor state.new event) }
     ensures same { plain state.new ≡ plain state.old }
     ensures sound { IsSound state.new }
@@ -75,8 +76,8 @@ fn reserve_room(state: &mut State, event: Event) -> Result<(), NoMemory>
         Event::Post(_, _) | Event::End(_) => Ok(()),
         Event::NotYet(_, _) | Event::Freeze(_, _) => Ok(()),
         Event::Wipe(_, _) | Event::Forget(_, _) => Ok(()),
-        // These have parts.
-        _ => Err(NoMemory),
+        Event::Act(_) | Event::Chunk(_, _) | Event::Haul(_, _, _) => unreachable!(),
+        Event::Plan(_) | Event::Fault(_, _, _) | Event::Restart(_, _, _) => unreachable!(),
     }
 }
 
@@ -152,8 +153,8 @@ fn carry_out_plain(state: &mut State, event: Event)
         Event::Forget(set, bucket) => forget(state, set, bucket),
         Event::Pin(operator) => pin(state, operator),
         Event::Stop(operator) => stop(state, operator),
-        // These have parts.
-        _ => (),
+        Event::Act(_) | Event::Chunk(_, _) | Event::Haul(_, _, _) => unreachable!(),
+        Event::Plan(_) | Event::Fault(_, _, _) | Event::Restart(_, _, _) => unreachable!(),
     }
 }
 
@@ -173,14 +174,16 @@ pub(crate) fn carry_out(state: &mut State, event: Event, prepared: Prepared)
         Prepared::Haul(operator, from, to, prepared) => haul(state, operator, from, to, prepared),
         Prepared::Plan(operator, prepared) => plan(state, operator, prepared),
         Prepared::Fault(prepared) => {
-            if let Event::Fault(set, number, recorded) = event {
-                fault(state, set, number, recorded, prepared);
-            }
+            let Event::Fault(set, number, recorded) = event else {
+                unreachable!()
+            };
+            fault(state, set, number, recorded, prepared);
         }
         Prepared::Restart(prepared) => {
-            if let Event::Restart(set, kept, by) = event {
-                restart(state, set, kept, by, prepared);
-            }
+            let Event::Restart(set, kept, by) = event else {
+                unreachable!()
+            };
+            restart(state, set, kept, by, prepared);
         }
     }
 }

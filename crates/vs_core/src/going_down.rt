@@ -39,11 +39,11 @@ fn reserve_outcome(tables: &mut OperatorTables) -> Result<(), NoMemory>
 }
 
 /// Makes room for one more answer to each operator.
-fn reserve_answers(state: &mut State) -> Result<(), NoMemory>
+pub(crate) fn reserve_answers(state: &mut State) -> Result<(), NoMemory>
     requires sound { IsSound state.old }
     ensures room { OnOk result ((o : ℕ) → HasAnswerRoom state.new o) }
+    ensures rest { state.new ≡ record state.old { operators = state.new.operators } }
     ensures same { plain state.new ≡ plain state.old }
-    ensures links { state.new.links ≡ state.old.links }
     ensures sound { IsSound state.new }
 {
     for index in 0..state.operators.len() {
@@ -87,6 +87,7 @@ pub(crate) fn reserve_going_down(state: &mut State, set: SetNo) -> Result<(), No
     requires set { machine.has_set (plain state.old) set ≡ true }
     requires sound { IsSound state.old }
     ensures ready { OnOk result (IsDownReady state.new set) }
+    ensures rest { state.new ≡ record state.old { operators = state.new.operators } }
     ensures same { plain state.new ≡ plain state.old }
     ensures sound { IsSound state.new }
 {

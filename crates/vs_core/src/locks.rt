@@ -17,7 +17,7 @@ use vs_space::Status;
 use vs_state::State;
 
 /// Whether a status is that of a bucket whose rows are to be deleted.
-fn is_garbage(status: &Option<Status>) -> bool
+pub(crate) fn is_garbage(status: &Option<Status>) -> bool
     ensures { result ≡ collection.is_garbage status.now }
 {
     matches!(status, Some(Status::Garbage))
@@ -50,7 +50,7 @@ fn settled_status(state: &State, set: SetNo, kept: bool, bucket: BucketId) -> Op
 }
 
 /// Locks a bucket that has no references against reads, if it is to be locked.
-fn lock_if(refs: &mut Refs, bucket: BucketId, locked: bool) -> Result<(), NoMemory>
+pub(crate) fn lock_if(refs: &mut Refs, bucket: BucketId, locked: bool) -> Result<(), NoMemory>
     requires { counts_of refs.old.items bucket ≡ no_counts }
     ensures { OnOk result ((q : ℕ) → counts_of refs.new.items q
         ≡ (if q == bucket then record no_counts { ro_lock = locked } else counts_of refs.old.items q)) }
@@ -76,7 +76,7 @@ pub(crate) fn settled_locks(state: &State, set: SetNo, kept: bool) -> Result<Ref
     }
     for before in 0..state.config.bucket_count {
         let Some(bucket) = BucketId::new(before + 1) else {
-            return Err(NoMemory);
+            unreachable!()
         };
         let status = settled_status(state, set, kept, bucket);
         lock_if(&mut refs, bucket, is_garbage(&status))?;

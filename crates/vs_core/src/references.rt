@@ -15,7 +15,7 @@ use vs_base::{BucketId, Mode, NoMemory, SetNo};
 use vs_state::{SetTables, State};
 
 /// Makes room for references in the tables of a set.
-fn reserve_in(tables: &mut SetTables) -> Result<(), NoMemory>
+pub(crate) fn reserve_in(tables: &mut SetTables) -> Result<(), NoMemory>
     ensures room { OnOk result (1 ≤ tables.new.refs.room) }
     ensures items { tables.new.refs.items ≡ tables.old.refs.items }
     ensures rest { tables.new ≡ record tables.old { refs = tables.new.refs } }

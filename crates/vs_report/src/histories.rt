@@ -14,7 +14,7 @@ ghost use Rattle.vs_report.specs.Adds.{Adds};
 use crate::answers::put_answers;
 use crate::ops::put_ops;
 use crate::words::{put_number, put_text, put_word};
-use vs_base::NoMemory;
+use vs_base::{BucketId, NoMemory};
 use vs_history::{Entry, History};
 use vs_rows::{Key, Val};
 use vs_state::State;
@@ -114,8 +114,11 @@ pub fn put_histories(out: &mut Vec<u8>, state: &State) -> Result<(), NoMemory>
         (λ b. history_lines b ((plain state.now).bucket b).history)
         (numbers_to (plain state.now).config.bucket_count))) }
 {
-    for (i, history) in state.histories.iter().enumerate() {
-        put_history(out, i as u64 + 1, history)?;
+    for index in 0..state.config.bucket_count {
+        let Some(bucket) = BucketId::new(index + 1) else {
+            unreachable!()
+        };
+        put_history(out, u64::from(index) + 1, state.history(bucket))?;
     }
     Ok(())
 }

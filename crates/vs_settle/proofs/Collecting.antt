@@ -8,9 +8,9 @@ use Rattle.vs_space.specs.declared.status.Status.TheVariants.{Sent, Garbage}
 use Rattle.vs_machine.specs.State.{State, Bucket, sets_of, put_bucket, with_entry, put_rows}
 use Rattle.vs_machine.specs.Kinds.Connections.{is_null}
 use Rattle.vs_machine.specs.Kinds.Collection.{condemn, wipe, forget}
+use Rattle.vs_machine.specs.Settling.{IsSilent}
 use Rattle.vs_machine.proofs.Frame.{put_here, put_there}
-use Rattle.vs_settle.specs.Service.{IsSilent}
-use Rattle.vs_settle.specs.Tasks.{CanCollect, IsNext}
+use Rattle.vs_settle.specs.Tasks.{CanCollect, IsNextEntry}
 use Rattle.vs_settle.specs.Weight.{pages, price, price_at, weight}
 use Rattle.vs_settle.proofs.Moves.{Moves, moves_weight}
 use Rattle.vs_settle.proofs.Possible.{condemn_is, wipe_is, forget_is}
@@ -54,7 +54,7 @@ module _ (s : State) (x b : ℕ) (silent : IsSilent s) where
 
 -- ---- a bucket that was sent is given up
 
-module _ (s : State) (x b d : ℕ) (can : IsNext s x b 1) (sent : (s.bucket b).entry x ≡ Some (Sent d)) where
+module _ (s : State) (x b d : ℕ) (can : IsNextEntry s x b 1) (sent : (s.bucket b).entry x ≡ Some (Sent d)) where
   abbrev pub condemned : State
   condemned = put_bucket s b (with_entry (s.bucket b) x (Some Garbage))
 

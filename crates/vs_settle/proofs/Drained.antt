@@ -6,10 +6,11 @@ use Rattle.vs_config.specs.Configuration.{Configuration}
 use Rattle.vs_link.specs.Connection.{Connection, first, unused}
 use Rattle.vs_machine.specs.State.{State, sets_of, has_set, is_link}
 use Rattle.vs_machine.specs.Tables.{is_to}
+use Rattle.vs_machine.specs.Settling.{HasNoMessage, IsSilent, IsEmpty}
 use Rattle.vs_machine.proofs.Possible.{both_are}
 use Rattle.vs_world.specs.Played.{Played, state_of}
-use Rattle.vs_settle.specs.Messages.{HasNoMessage, IsDrained, AreDrained}
-use Rattle.vs_settle.specs.Service.{Follows, IsPaid, IsResting, IsSilent, IsEmpty}
+use Rattle.vs_settle.specs.Messages.{IsDrained, AreDrained}
+use Rattle.vs_settle.specs.Service.{Follows, IsPaid, IsResting}
 use Rattle.vs_settle.specs.Weight.{weight}
 use Rattle.vs_settle.proofs.Following.{follows_none, follows_then}
 use Rattle.vs_settle.proofs.Tables.{within}
@@ -94,7 +95,7 @@ first_none false (x ∷ xs) e h = absurd cc
 pub quieting_ends : (p q : Played) (m n k : ℕ) → Quieting p m q n k → sets_of (state_of p) ≤ k → ((x y : ℕ) → is_link (state_of q) x y ≡ false → (state_of q).link x y ≡ unused) → IsSilent (state_of q)
 quieting_ends p q m n k e all out x y ne = by (is_link (state_of q) x y) refl
   where
-    by : (t : Bool) → is_link (state_of q) x y ≡ t → IsEmpty (state_of q) x y
+    by : (t : Bool) → is_link (state_of q) x y ≡ t → IsEmpty ((state_of q).link x y)
     by false is = record {
       calls = ap (λ (l : Connection). l.calls) (out x y is);
       replies = ap (λ (l : Connection). l.replies) (out x y is);

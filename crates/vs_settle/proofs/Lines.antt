@@ -18,17 +18,18 @@ use Rattle.vs_machine.specs.Step.{step}
 use Rattle.vs_machine.specs.Kinds.Connections.{first_call, first_reply, deliver, hear, after_deliver, answered, status_at, bucket_hearing}
 use Rattle.vs_machine.specs.Whole.{Whole}
 use Rattle.vs_machine.specs.Inner.Lines.{MessageFits, ReplyFits, HeardFits, IsIn}
+use Rattle.vs_machine.specs.Actors.{IsPossible}
 use Rattle.vs_machine.proofs.Can.Others.{can_deliver, can_hear}
 use Rattle.vs_machine.proofs.Kept.Delivering.{head_is, head_fits}
 use Rattle.vs_machine.proofs.Reached.{reached_whole}
 use Rattle.vs_settle.specs.Messages.{IsOnLine}
 use Rattle.vs_settle.specs.Quiet.{IsQuiet}
 use Rattle.vs_world.specs.Played.{Played, state_of}
-use Rattle.vs_settle.specs.Service.{IsResting, IsPossible, IsPaid, Follows}
+use Rattle.vs_settle.specs.Service.{IsResting, IsPaid, Follows}
 use Rattle.vs_settle.specs.Weight.{load, loads, prices, weight}
 use Rattle.vs_settle.proofs.Following.{follows_none, follows_then}
 use Rattle.vs_settle.proofs.Hearing.{cheaper}
-use Rattle.vs_settle.proofs.Possible.{deliver_is, hear_is}
+use Rattle.vs_settle.proofs.Possible.{possible, deliver_is, hear_is}
 use Rattle.vs_settle.proofs.Tables.{put_at_here, put_at_there, within}
 use Rattle.vs_settle.proofs.Weights.{loads_at, prices_le}
 
@@ -124,10 +125,10 @@ some_is None e = absurd cc
 pub line_possible : (s : State) (x y : ℕ) (e : Event) → has_set s x ≡ true → has_set s y ≡ true → IsOnLine s x y e → IsPossible s e
 line_possible s x y (Deliver p q) from to on =
     let head = some_is (first_call s x y) on.2 in
-    subst (λ v. IsPossible s (Deliver v q)) (sym on.0) (subst (λ v. IsPossible s (Deliver x v)) (sym on.1) (_, deliver_is s x y from to head.0 head.1))
+    subst (λ v. IsPossible s (Deliver v q)) (sym on.0) (subst (λ v. IsPossible s (Deliver x v)) (sym on.1) (possible s _ (Deliver x y) (deliver_is s x y from to head.0 head.1)))
 line_possible s x y (Hear p q) from to on =
     let head = some_is (first_reply s x y) on.2 in
-    subst (λ v. IsPossible s (Hear v q)) (sym on.0) (subst (λ v. IsPossible s (Hear x v)) (sym on.1) (_, hear_is s x y from to head.0 head.1))
+    subst (λ v. IsPossible s (Hear v q)) (sym on.0) (subst (λ v. IsPossible s (Hear x v)) (sym on.1) (possible s _ (Hear x y) (hear_is s x y from to head.0 head.1)))
 line_possible s x y e from to on = absurd on
 
 -- the same along the events of the service so far

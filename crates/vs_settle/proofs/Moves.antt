@@ -4,7 +4,7 @@ use Rattle.std.specs.Prelude.{◌≢◌, if◌then◌else◌}
 use Rattle.std.proofs.lemmas.Bool.{eqb-false}
 use Rattle.vs_config.specs.Configuration.{Configuration}
 use Rattle.vs_machine.specs.State.{State, sets_of, has_set, has_bucket}
-use Rattle.vs_settle.specs.Service.{IsSilent}
+use Rattle.vs_machine.specs.Settling.{IsSilent}
 use Rattle.vs_settle.specs.Weight.{load, load_at, loads, price_at, prices, weight}
 use Rattle.vs_settle.proofs.Sums.{over_same}
 use Rattle.vs_settle.proofs.Tables.{within}

@@ -1,8 +1,12 @@
 -- Where the events of the service are possible, and what they give.
-use Rattle.std.proofs.Common.{◌≡◌, ℕ, ◌==◌, true, false, ap, ◌∙◌, drop, length, Option, Some, None, Ok}
-use Rattle.std.specs.Prelude.{◌&&◌, not, is_none}
+use Rattle.std.proofs.Common.{◌≡◌, ℕ, true, false, refl, sym, ap, subst, ◌∙◌, drop, length, List, [], ◌∷◌, Option, Some, None, Ok, Err}
+use Rattle.std.specs.Prelude.{◌&&◌, not, min, is_some, IsOk}
 use Rattle.vs_base.specs.declared.numbers.Mode.TheVariants.{Ro}
+use Rattle.vs_rows.specs.RowMap.{RowMap}
 use Rattle.vs_space.specs.declared.status.Status.TheVariants.{Sent, Garbage}
+use Rattle.vs_collect.specs.Collect.{condemned, wiped, forgotten}
+use Rattle.vs_collect.specs.declared.unmet.Unmet.{Unmet}
+use Rattle.vs_event.specs.declared.event.Event.{Event}
 use Rattle.vs_event.specs.declared.reason.Reason.{Reason}
 use Rattle.vs_event.specs.declared.reason.Reason.TheVariants as reason
 use Rattle.vs_link.specs.Connection as link
@@ -11,7 +15,9 @@ use Rattle.vs_machine.specs.Check.{◌>>=◌, ◌>>◌, needs, wants}
 use Rattle.vs_machine.specs.State.{State, has_set, has_bucket, references, put_bucket, with_entry, put_rows}
 use Rattle.vs_machine.specs.Kinds.Connections.{first_call, first_reply, deliver, after_deliver, hear, after_hear, asked_set, is_null}
 use Rattle.vs_machine.specs.Kinds.Recovery.{may_ask, is_live, ask, after_ask}
-use Rattle.vs_machine.specs.Kinds.Collection.{is_sent, is_garbage, condemn, wipe, forget}
+use Rattle.vs_machine.specs.Kinds.Collection.{allowed, condemn, wipe, forget}
+use Rattle.vs_machine.specs.Actors.{IsPossible}
+use Rattle.vs_machine.specs.Step.{step}
 use Rattle.std.specs.Prelude.{Bool, Result}
 
 needs_true : {B : Type 0} (t : Bool) (r : Reason) (rest : Result B Reason) → t ≡ true → (needs t r >> rest) ≡ rest
@@ -19,6 +25,25 @@ needs_true t r rest e = ap (λ u. needs u r >> rest) e
 
 wants_some : {A B : Type 0} (o : Option A) (r : Reason) (f : A → Result B Reason) (x : A) → o ≡ Some x → (wants o r >>= f) ≡ f x
 wants_some o r f x e = ap (λ u. wants u r >>= f) e
+
+-- an event is possible where there is a state after it
+pub possible : (s t : State) (e : Event) → step s e ≡ Ok t → IsPossible s e
+possible s t e is = subst (λ (r : Result State Reason). IsOk r) (sym is) refl
+
+pub next_of : {A : Type 0} (r : Result A Reason) → IsOk r → (t : A) × (r ≡ Ok t)
+next_of (Ok t) h = (t, refl)
+next_of (Err e) h = absurd (cc h)
+
+allowed_ok : {A B : Type 0} (r : Result A Unmet) (rest : Result B Reason) (x : A) → r ≡ Ok x → (allowed r >> rest) ≡ rest
+allowed_ok r rest x e = ap (λ u. allowed u >> rest) e
+
+some_rows : (rows : RowMap) → is_null rows ≡ false → wiped (Some Garbage) rows ≡ Ok (min 1000 (length rows))
+some_rows (row ∷ rows) h = refl
+some_rows [] h = absurd cc
+
+no_rows : {A : Type 0} (xs : List A) → is_null xs ≡ true → length xs ≡ 0
+no_rows [] h = refl
+no_rows (x ∷ xs) h = absurd cc
 
 both : (p q : Bool) → p ≡ true → q ≡ true → (p && q) ≡ true
 both p q a b = ap (λ t. t && q) a ∙ b
@@ -46,22 +71,18 @@ module _ (s : State) (x b : ℕ) (set : has_set s x ≡ true) (bucket : has_buck
   condemn_is d sent free unheld =
       needs_true (has_set s x && has_bucket s b) reason.Unknown _ (both _ _ set bucket)
       ∙ needs_true (s.up x) (reason.Down x) _ up
-      ∙ needs_true (is_sent ((s.bucket b).entry x)) (reason.Unfit ((s.bucket b).entry x)) _ (ap is_sent sent)
-      ∙ needs_true (is_none ((s.bucket b).transfer x)) reason.Live _ (ap (λ t. is_none t) free)
-      ∙ needs_true (references s Ro x b == 0) (reason.Referenced (references s Ro x b)) _ (ap (λ n. n == 0) unheld)
+      ∙ allowed_ok (condemned ((s.bucket b).entry x) (is_some ((s.bucket b).transfer x)) (references s Ro x b)) _ tt (λ i. condemned (sent i) (is_some (free i)) (unheld i))
 
   pub wipe_is : (s.bucket b).entry x ≡ Some Garbage → is_null ((s.bucket b).rows x) ≡ false
       → wipe s x b ≡ Ok (put_bucket s b (put_rows (s.bucket b) x (drop 1000 ((s.bucket b).rows x))))
   wipe_is garbage some =
       needs_true (has_set s x && has_bucket s b) reason.Unknown _ (both _ _ set bucket)
       ∙ needs_true (s.up x) (reason.Down x) _ up
-      ∙ needs_true (is_garbage ((s.bucket b).entry x)) (reason.Unfit ((s.bucket b).entry x)) _ (ap is_garbage garbage)
-      ∙ needs_true (not (is_null ((s.bucket b).rows x))) reason.NoRows _ (ap not some)
+      ∙ allowed_ok (wiped ((s.bucket b).entry x) ((s.bucket b).rows x)) _ (min 1000 (length ((s.bucket b).rows x))) (ap (λ e. wiped e ((s.bucket b).rows x)) garbage ∙ some_rows _ some)
 
   pub forget_is : (s.bucket b).entry x ≡ Some Garbage → is_null ((s.bucket b).rows x) ≡ true
       → forget s x b ≡ Ok (put_bucket s b (with_entry (s.bucket b) x None))
   forget_is garbage none =
       needs_true (has_set s x && has_bucket s b) reason.Unknown _ (both _ _ set bucket)
       ∙ needs_true (s.up x) (reason.Down x) _ up
-      ∙ needs_true (is_garbage ((s.bucket b).entry x)) (reason.Unfit ((s.bucket b).entry x)) _ (ap is_garbage garbage)
-      ∙ needs_true (is_null ((s.bucket b).rows x)) (reason.Rows (length ((s.bucket b).rows x))) _ none
+      ∙ allowed_ok (forgotten ((s.bucket b).entry x) (length ((s.bucket b).rows x))) _ tt (λ i. forgotten (garbage i) (no_rows _ none i))

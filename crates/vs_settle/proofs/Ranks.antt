@@ -6,7 +6,7 @@ use Rattle.vs_machine.specs.State.{State}
 use Rattle.vs_machine.specs.Kinds.Collection.{is_sent, is_garbage}
 use Rattle.vs_machine.specs.Kinds.Connections.{asked_set}
 use Rattle.vs_world.specs.Played.{Played, state_of}
-use Rattle.vs_settle.specs.Tasks.{CanAsk, CanCollect, IsDone, IsNext, rank, sender_in, receiver_in}
+use Rattle.vs_settle.specs.Tasks.{CanAsk, CanCollect, IsDone, IsNextEntry, rank, sender_in, receiver_in}
 use Rattle.vs_settle.proofs.Settled.{receiver_settles, sender_settles}
 
 -- ---- an entry that is received, or sent
@@ -47,19 +47,19 @@ not_sent (Some Pinned) h low = omega arith
 not_sent (Some (Sent d)) h low = omega arith
 not_sent (Some Garbage) h low = omega arith
 
-pub receiver_asks : (s : State) (x b y : ℕ) → IsNext s x b 3 → sender_in ((s.bucket b).entry x) ≡ Some y → CanAsk s x b y
+pub receiver_asks : (s : State) (x b y : ℕ) → IsNextEntry s x b 3 → sender_in ((s.bucket b).entry x) ≡ Some y → CanAsk s x b y
 receiver_asks s x b y next h =
     let at = sender_named ((s.bucket b).entry x) y h in
     record { rests = next.rests; silent = next.silent; set = next.set; bucket = next.bucket; named = ap asked_set at; decides = receiver_settles s x b y next.rests at }
 
-pub sender_asks : (s : State) (x b y : ℕ) → IsNext s x b 2 → receiver_in ((s.bucket b).entry x) ≡ Some y → CanAsk s x b y
+pub sender_asks : (s : State) (x b y : ℕ) → IsNextEntry s x b 2 → receiver_in ((s.bucket b).entry x) ≡ Some y → CanAsk s x b y
 sender_asks s x b y next h =
     let at = receiver_named ((s.bucket b).entry x) y h in
     record { rests = next.rests; silent = next.silent; set = next.set; bucket = next.bucket; named = ap asked_set at; decides = sender_settles s x b y next.rests at next.ranks }
 
 -- ---- an entry that is settled already
 
-pub done_already : (p : Played) (m x b j k : ℕ) → IsNext (state_of p) x b j → rank (((state_of p).bucket b).entry x) < k → IsDone p m p m x b k
+pub done_already : (p : Played) (m x b j k : ℕ) → IsNextEntry (state_of p) x b j → rank (((state_of p).bucket b).entry x) < k → IsDone p m p m x b k
 done_already p m x b j k next low = record { paid = omega arith; silent = next.silent; rank_is = low; sets = λ y ne. refl; buckets = λ c ne. refl }
 
 pub sent_is : (e : Option Status) → is_sent e ≡ true → (d : ℕ) × (e ≡ Some (Sent d))
@@ -90,5 +90,5 @@ leaving_gone (Some (Receiving x)) low sent garbage = absurd (omega (arith, low))
 leaving_gone (Some (Sent d)) low sent garbage = absurd cc
 leaving_gone (Some Garbage) low sent garbage = absurd cc
 
-pub leaving_collects : (s : State) (x b : ℕ) → IsNext s x b 1 → (s.bucket b).entry x ≡ Some Garbage → CanCollect s x b
+pub leaving_collects : (s : State) (x b : ℕ) → IsNextEntry s x b 1 → (s.bucket b).entry x ≡ Some Garbage → CanCollect s x b
 leaving_collects s x b next at = record { rests = next.rests; silent = next.silent; set = next.set; bucket = next.bucket; garbage = at }

@@ -17,11 +17,11 @@ use Rattle.vs_machine.specs.Kinds.Connections.{first_call, first_reply, deliver,
 use Rattle.vs_machine.specs.Kinds.Recovery.{may_ask, is_live, ask, after_ask}
 use Rattle.vs_machine.specs.Whole.{Whole}
 use Rattle.vs_machine.specs.Inner.Asks.{IsAskUnderWay}
+use Rattle.vs_machine.specs.Settling.{IsSilent, IsEmpty}
 use Rattle.vs_machine.proofs.Frame.{put_here, put_there}
 use Rattle.vs_machine.proofs.Linked.{are_linked}
 use Rattle.vs_machine.proofs.Possible.{both_are, not_is}
 use Rattle.vs_machine.proofs.Reached.{reached_whole}
-use Rattle.vs_settle.specs.Service.{IsSilent, IsEmpty}
 use Rattle.vs_settle.specs.Tasks.{CanAsk}
 use Rattle.vs_settle.proofs.Moves.{Moves}
 use Rattle.vs_settle.proofs.Possible.{deliver_is, hear_is, ask_is}
@@ -190,7 +190,7 @@ module _ (s : State) (x b y : ℕ) (can : CanAsk s x b y) where
   rows_kept z = ap (λ (u : Bucket). u.rows z) settled_bucket ∙ rows_decided decision z
 
   -- the connection is as empty as before
-  silent_here : IsEmpty settled x y
+  silent_here : IsEmpty (settled.link x y)
   silent_here =
       let c = (can.silent x y apart).calls in
       let r = (can.silent x y apart).replies in
@@ -206,14 +206,14 @@ module _ (s : State) (x b y : ℕ) (can : CanAsk s x b y) where
   silent_after : IsSilent settled
   silent_after p q ne = by (cases_eq p x) (cases_eq q y)
     where
-      elsewhere : (p ≡ x → q ≡ y → ⊥) → IsEmpty settled p q
+      elsewhere : (p ≡ x → q ≡ y → ⊥) → IsEmpty (settled.link p q)
       elsewhere far = record {
         calls = ap (λ (k : Connection). k.calls) (other_link p q far) ∙ (can.silent p q ne).calls;
         replies = ap (λ (k : Connection). k.replies) (other_link p q far) ∙ (can.silent p q ne).replies;
       }
 
-      by : (p ≡ x) ⊎ (p ≢ x) → (q ≡ y) ⊎ (q ≢ y) → IsEmpty settled p q
-      by (inl e) (inl f) = subst (λ v. IsEmpty settled v q) (sym e) (subst (λ v. IsEmpty settled x v) (sym f) silent_here)
+      by : (p ≡ x) ⊎ (p ≢ x) → (q ≡ y) ⊎ (q ≢ y) → IsEmpty (settled.link p q)
+      by (inl e) (inl f) = subst (λ v. IsEmpty (settled.link v q)) (sym e) (subst (λ v. IsEmpty (settled.link x v)) (sym f) silent_here)
       by (inr n) other = elsewhere (λ e _. n e)
       by (inl e) (inr n) = elsewhere (λ _ f. n f)
 

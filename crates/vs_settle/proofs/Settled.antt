@@ -12,10 +12,10 @@ use Rattle.vs_machine.specs.State.{State, sets_of, has_bucket}
 use Rattle.vs_machine.specs.Coherence.{IsServing, names}
 use Rattle.vs_machine.specs.Kinds.Connections.{decision_by}
 use Rattle.vs_machine.specs.Inner.Owner.{IsPlaced, Owns, Beside}
-use Rattle.vs_machine.specs.Settling.{IsAtOne, IsSettled, cost_of, cost_at, cost_with, messages_in, messages_of, settle_bound}
+use Rattle.vs_machine.specs.Settling.{IsAtOne, IsSettled, cost_of, cost_at, cost_with, messages_in, messages_of, settle_bound, AreUp, IsSilent}
 use Rattle.vs_machine.proofs.Owners.{sending_owns}
 use Rattle.vs_machine.proofs.Reached.{reached_whole}
-use Rattle.vs_settle.specs.Service.{AreUp, IsResting, IsSilent}
+use Rattle.vs_settle.specs.Service.{IsResting}
 use Rattle.vs_settle.specs.Tasks.{rank, IsUpTo}
 use Rattle.vs_settle.specs.Weight.{load, load_at, loads, pages, price, price_at, prices, weight}
 use Rattle.vs_settle.proofs.Sums.{over_le, sum_scale}

@@ -11,7 +11,7 @@ use Rattle.vs_machine.specs.Kinds.Recovery.{ask}
 use Rattle.vs_machine.proofs.Possible.{ok_is}
 use Rattle.vs_world.specs.Played.{Played, state_of}
 use Rattle.vs_settle.specs.Service.{Follows, IsPaid}
-use Rattle.vs_settle.specs.Tasks.{CanAsk, CanCollect, IsDone, IsNext, rank}
+use Rattle.vs_settle.specs.Tasks.{CanAsk, CanCollect, IsDone, IsNextEntry, rank}
 use Rattle.vs_settle.specs.Weight.{pages, price, price_at, weight}
 use Rattle.vs_settle.proofs.Collecting.{condemns, condemned_moves, condemned_entry, condemned_lighter, wipes, wiped_moves, wiped_entry, wiped_fewer, wiped_lighter, forgets, forgotten_moves, forgotten_entry, forgotten_lighter}
 use Rattle.vs_settle.proofs.Following.{follows_none, follows_then}
@@ -98,13 +98,13 @@ asking_costs s x b y can = let lighter = (recovering_settles s x b y can).lighte
 
 -- ---- a bucket that was sent is given up
 
-pub condemning_settles : (s t : State) (x b d : ℕ) → IsNext s x b 1 → (s.bucket b).entry x ≡ Some (Sent d) → condemn s x b ≡ Ok t → Settles s t x b 2 1 × ((t.bucket b).entry x ≡ Some Garbage)
+pub condemning_settles : (s t : State) (x b d : ℕ) → IsNextEntry s x b 1 → (s.bucket b).entry x ≡ Some (Sent d) → condemn s x b ≡ Ok t → Settles s t x b 2 1 × ((t.bucket b).entry x ≡ Some Garbage)
 condemning_settles s t x b d can sent h =
     subst (λ u. Settles s u x b 2 1 × ((u.bucket b).entry x ≡ Some Garbage)) (ok_is _ t (sym (condemns s x b d can sent) ∙ h))
     (let lighter = condemned_lighter s x b d can sent in
     (record { moves = condemned_moves s x b d can sent; rank_is = subst (λ e. rank e < 2) (sym (condemned_entry s x b d can sent)) (omega arith); lighter = omega (arith, lighter) }, condemned_entry s x b d can sent))
 
-pub condemning_collects : (p q : Played) (m n x b : ℕ) → IsNext (state_of p) x b 1 → Follows p m q n → Settles (state_of p) (state_of q) x b 2 1 → ((state_of q).bucket b).entry x ≡ Some Garbage → CanCollect (state_of q) x b
+pub condemning_collects : (p q : Played) (m n x b : ℕ) → IsNextEntry (state_of p) x b 1 → Follows p m q n → Settles (state_of p) (state_of q) x b 2 1 → ((state_of q).bucket b).entry x ≡ Some Garbage → CanCollect (state_of q) x b
 condemning_collects p q m n x b next f one at = record { rests = f.rests; silent = one.moves.silent; set = set_stays p q m n x f next.set; bucket = bucket_stays p q m n b f next.bucket; garbage = at }
 
 -- ---- a bucket that is garbage is wiped, and forgotten

@@ -5,9 +5,10 @@ use Rattle.std.proofs.lemmas.Bool.{cases_eq}
 use Rattle.vs_config.specs.Configuration.{Configuration}
 use Rattle.vs_machine.specs.State.{Bucket, sets_of, has_bucket}
 use Rattle.vs_machine.specs.Tables.{is_to}
+use Rattle.vs_machine.specs.Settling.{IsSilent}
 use Rattle.vs_world.specs.Played.{Played, state_of}
-use Rattle.vs_settle.specs.Service.{Follows, IsPaid, IsResting, IsSilent}
-use Rattle.vs_settle.specs.Tasks.{AreDone, IsDone, IsNext, IsUpTo, level, rank}
+use Rattle.vs_settle.specs.Service.{Follows, IsPaid, IsResting}
+use Rattle.vs_settle.specs.Tasks.{AreDone, IsDone, IsNextEntry, IsUpTo, level, rank}
 use Rattle.vs_settle.specs.declared.entries.Task.{Task}
 use Rattle.vs_settle.specs.declared.entries.Task.TheVariants.{Receivers, Senders, Leavings}
 use Rattle.vs_settle.specs.Weight.{weight}
@@ -32,7 +33,7 @@ pub record Sweeping (p : Played) (m : ℕ) (q : Played) (n : ℕ) (b k i : ℕ) 
 pub sweeping_starts : (p : Played) (m b k : ℕ) → IsResting (state_of p) → IsSilent (state_of p) → IsUpTo (state_of p) b k → Sweeping p m p m b k 0
 sweeping_starts p m b k r silent ranks = record { follows = follows_none p m r; paid = omega arith; silent = silent; swept = λ y from to. absurd (omega arith); ranks = ranks; buckets = λ c ne. refl }
 
-pub sweeping_next : (p q : Played) (m n b k i : ℕ) → Sweeping p m q n b k i → has_bucket (state_of p) b ≡ true → i + 1 ≤ sets_of (state_of p) → IsNext (state_of q) (i + 1) b k
+pub sweeping_next : (p q : Played) (m n b k i : ℕ) → Sweeping p m q n b k i → has_bucket (state_of p) b ≡ true → i + 1 ≤ sets_of (state_of p) → IsNextEntry (state_of q) (i + 1) b k
 sweeping_next p q m n b k i e known lt = record {
   rests = e.follows.rests;
   silent = e.silent;

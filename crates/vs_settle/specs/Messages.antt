@@ -1,16 +1,12 @@
 -- The lines of a connection are emptied.
-use Rattle.std.specs.Prelude.{◌≡◌, ℕ, true, None, is_some}
+use Rattle.std.specs.Prelude.{◌≡◌, ℕ, true, is_some}
 use Rattle.vs_event.specs.declared.event.Event.{Event}
 use Rattle.vs_event.specs.declared.event.Event.TheVariants.{Deliver, Hear}
 use Rattle.vs_machine.specs.Kinds.Connections.{first_call, first_reply}
+use Rattle.vs_machine.specs.Settling.{HasNoMessage}
 use Rattle.vs_machine.specs.State.{State, has_set}
 use Rattle.vs_world.specs.Played.{Played, state_of}
 use Rattle.vs_settle.specs.Service.{IsPaid}
-
--- no message and no reply stands first
-pub record HasNoMessage (s : State) (x y : ℕ) : Type 0 where
-  pub calls : first_call s x y ≡ None
-  pub replies : first_reply s x y ≡ None
 
 -- the event takes the first message, or hears the first reply
 abbrev pub IsOnLine : State → ℕ → ℕ → Event → Type 0

@@ -1,11 +1,11 @@
 -- What the service may do, and what is known while it does it.
-use Rattle.std.specs.Prelude.{◌≡◌, ◌≢◌, ℕ, ◌+◌, ◌≤◌, true, List, [], ◌++◌, length, All, Ok}
+use Rattle.std.specs.Prelude.{◌≡◌, ℕ, ◌+◌, ◌≤◌, true, List, ◌++◌, length, All}
 use Rattle.vs_event.specs.declared.event.Event.{Event}
 use Rattle.vs_event.specs.declared.event.Event.TheVariants.{Deliver, Hear, Ask, Condemn, Wipe, Forget}
 use Rattle.vs_machine.specs.Kinds.Stops.{is_finished}
 use Rattle.vs_machine.specs.Runs.{IsReached}
-use Rattle.vs_machine.specs.State.{State, sets_of}
-use Rattle.vs_machine.specs.Step.{step}
+use Rattle.vs_machine.specs.Settling.{AreUp}
+use Rattle.vs_machine.specs.State.{State}
 use Rattle.vs_world.specs.Played.{Played, state_of, began}
 use Rattle.vs_settle.specs.Quiet.{IsQuiet}
 use Rattle.vs_settle.specs.Weight.{weight}
@@ -21,13 +21,10 @@ IsService (Forget x b) = Unit {0}
 IsService e = ⊥
 
 -- the later list begins with the earlier one, and the rest is the service's
-pub record Serves (earlier later : List Event) : Type 0 where
+pub record AddsServices (earlier later : List Event) : Type 0 where
   pub added : List Event
   pub events : later ≡ earlier ++ added
   pub services : All IsService added
-
-abbrev pub AreUp : State → Type 0
-AreUp s = (x : ℕ) → 1 ≤ x → x ≤ sets_of s → s.up x ≡ true
 
 -- every call and every command is answered, and every set is up
 pub record CanSettle (s : State) : Type 0 where
@@ -41,12 +38,9 @@ pub record IsResting (s : State) : Type 0 where
   pub up : AreUp s
   pub quiet : IsQuiet s
 
-abbrev pub IsPossible : State → Event → Type 0
-IsPossible s e = (t : State) × (step s e ≡ Ok t)
-
 -- from p to q the service carried out events, one for each tick from m to n
 pub record Follows (p : Played) (m : ℕ) (q : Played) (n : ℕ) : Type 0 where
-  pub serves : Serves p.events q.events
+  pub serves : AddsServices p.events q.events
   pub ticks : n ≡ m + length serves.added
   pub start : began q ≡ began p
   pub config : (state_of q).config ≡ (state_of p).config
@@ -55,12 +49,3 @@ pub record Follows (p : Played) (m : ℕ) (q : Played) (n : ℕ) : Type 0 where
 -- the events took at least as much from the weight
 abbrev pub IsPaid : Played → ℕ → Played → ℕ → Type 0
 IsPaid p m q n = n + weight (state_of q) ≤ m + weight (state_of p)
-
--- nothing lies on the connection
-pub record IsEmpty (s : State) (x y : ℕ) : Type 0 where
-  pub calls : (s.link x y).calls ≡ []
-  pub replies : (s.link x y).replies ≡ []
-
--- nothing lies on any connection
-abbrev pub IsSilent : State → Type 0
-IsSilent s = (x y : ℕ) → x ≢ y → IsEmpty s x y

@@ -4,11 +4,12 @@ use Rattle.vs_space.specs.declared.status.Status.{Status}
 use Rattle.vs_space.specs.declared.status.Status.TheVariants.{Active, Pinned, Sending, Receiving, Sent, Garbage}
 use Rattle.vs_recover.specs.declared.decision.Decision.TheVariants.{Stay}
 use Rattle.vs_machine.specs.Kinds.Connections.{asked_set, decision_by}
+use Rattle.vs_machine.specs.Settling.{IsSilent}
 use Rattle.vs_machine.specs.State.{State, has_set, has_bucket}
 use Rattle.vs_world.specs.Played.{Played, state_of}
 use Rattle.vs_settle.specs.declared.entries.Task.{Task}
 use Rattle.vs_settle.specs.declared.entries.Task.TheVariants.{Receivers, Senders, Leavings}
-use Rattle.vs_settle.specs.Service.{IsResting, IsSilent, IsPaid}
+use Rattle.vs_settle.specs.Service.{IsResting, IsPaid}
 
 -- the task that settles an entry; one of rank 0 is at rest
 abbrev pub rank : Option Status → ℕ
@@ -39,7 +40,7 @@ abbrev pub IsUpTo : State → ℕ → ℕ → Type 0
 IsUpTo s b k = (y : ℕ) → rank ((s.bucket b).entry y) ≤ k
 
 -- the entry of bucket b at set x is next, and all of higher ranks are settled
-pub record IsNext (s : State) (x b k : ℕ) : Type 0 where
+pub record IsNextEntry (s : State) (x b k : ℕ) : Type 0 where
   pub rests : IsResting s
   pub silent : IsSilent s
   pub set : has_set s x ≡ true

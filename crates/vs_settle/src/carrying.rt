@@ -2,8 +2,9 @@
 
 ghost use Rattle.std.specs.Prelude.{◌≡◌, ◌≤◌, ◌+◌, Ok, OnOk, OnErr};
 ghost use Rattle.vs_machine.specs.Step.{step};
+ghost use Rattle.vs_machine.specs.Actors.{IsPossible};
 ghost use Rattle.vs_world.specs.Played.{state_of};
-ghost use Rattle.vs_settle.specs.Service.{Follows, IsPossible, IsResting, IsService};
+ghost use Rattle.vs_settle.specs.Service.{Follows, IsResting, IsService};
 
 use crate::laws::finished_is_quiet;
 use crate::steps::Steps;

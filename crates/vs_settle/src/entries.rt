@@ -3,9 +3,10 @@
 ghost use Rattle.std.specs.Prelude.{◌≡◌, ◌≤◌, ◌+◌, ◌<◌, ℕ, true, OnOk};
 ghost use Rattle.vs_machine.specs.Kinds.Collection.{is_sent};
 ghost use Rattle.vs_machine.specs.State.{has_bucket};
+ghost use Rattle.vs_machine.specs.Settling.{IsSilent};
 ghost use Rattle.vs_world.specs.Played.{state_of};
-ghost use Rattle.vs_settle.specs.Service.{Follows, IsPaid, IsResting, IsSilent};
-ghost use Rattle.vs_settle.specs.Tasks.{AreDone, CanAsk, CanCollect, IsDone, IsNext, IsUpTo, level, rank};
+ghost use Rattle.vs_settle.specs.Service.{Follows, IsPaid, IsResting};
+ghost use Rattle.vs_settle.specs.Tasks.{AreDone, CanAsk, CanCollect, IsDone, IsNextEntry, IsUpTo, level, rank};
 ghost use Rattle.vs_settle.specs.Weight.{weight};
 
 use crate::carrying::carry_out;
@@ -19,7 +20,7 @@ use vs_event::Event;
 use vs_world::World;
 
 /// Which entries of a bucket are settled, in the order of the tasks.
-#[derive(Clone, Copy, Debug, PartialEq, Eq)]
+#[derive(Clone, Copy)]
 pub(crate) enum Task {
     /// Those of sets that receive it: each keeps it or throws it away, by what the sender has.
     Receivers,
@@ -72,7 +73,7 @@ fn give_up<L: Ledger>(
     set: SetNo,
     bucket: BucketId,
 ) -> Result<(), NoMemory>
-    requires next { IsNext (state_of world.old) set bucket 1 }
+    requires next { IsNextEntry (state_of world.old) set bucket 1 }
     requires sent { is_sent (((state_of world.old).bucket bucket).entry set) ≡ true }
     ensures follows { Follows world.old steps.old world.new steps.new }
     ensures spent { steps.new ≤ steps.old + weight (state_of world.old) }
@@ -89,7 +90,7 @@ fn settle_receiver<L: Ledger>(
     set: SetNo,
     bucket: BucketId,
 ) -> Result<(), NoMemory>
-    requires { IsNext (state_of world.old) set bucket 3 }
+    requires { IsNextEntry (state_of world.old) set bucket 3 }
     ensures follows { Follows world.old steps.old world.new steps.new }
     ensures spent { steps.new ≤ steps.old + weight (state_of world.old) }
     ensures done { OnOk result (IsDone world.old steps.old world.new steps.new set bucket 3) }
@@ -107,7 +108,7 @@ fn settle_sender<L: Ledger>(
     set: SetNo,
     bucket: BucketId,
 ) -> Result<(), NoMemory>
-    requires { IsNext (state_of world.old) set bucket 2 }
+    requires { IsNextEntry (state_of world.old) set bucket 2 }
     ensures follows { Follows world.old steps.old world.new steps.new }
     ensures spent { steps.new ≤ steps.old + weight (state_of world.old) }
     ensures done { OnOk result (IsDone world.old steps.old world.new steps.new set bucket 2) }
@@ -125,7 +126,7 @@ fn settle_leavings<L: Ledger>(
     set: SetNo,
     bucket: BucketId,
 ) -> Result<(), NoMemory>
-    requires { IsNext (state_of world.old) set bucket 1 }
+    requires { IsNextEntry (state_of world.old) set bucket 1 }
     ensures follows { Follows world.old steps.old world.new steps.new }
     ensures spent { steps.new ≤ steps.old + weight (state_of world.old) }
     ensures done { OnOk result (IsDone world.old steps.old world.new steps.new set bucket 1) }
@@ -148,7 +149,7 @@ fn settle_entry<L: Ledger>(
     set: SetNo,
     bucket: BucketId,
 ) -> Result<(), NoMemory>
-    requires { IsNext (state_of world.old) set bucket (level task) }
+    requires { IsNextEntry (state_of world.old) set bucket (level task) }
     ensures follows { Follows world.old steps.old world.new steps.new }
     ensures spent { steps.new ≤ steps.old + weight (state_of world.old) }
     ensures done { OnOk result (IsDone world.old steps.old world.new steps.new set bucket (level task)) }

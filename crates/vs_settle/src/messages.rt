@@ -2,9 +2,10 @@
 
 ghost use Rattle.std.specs.Prelude.{◌≡◌, ◌≤◌, ◌+◌, true, OnOk};
 ghost use Rattle.vs_machine.specs.State.{has_set, sets_of};
+ghost use Rattle.vs_machine.specs.Settling.{IsSilent};
 ghost use Rattle.vs_world.specs.Played.{state_of};
 ghost use Rattle.vs_settle.specs.Messages.{AreDrained, IsDrained};
-ghost use Rattle.vs_settle.specs.Service.{Follows, IsPaid, IsResting, IsSilent};
+ghost use Rattle.vs_settle.specs.Service.{Follows, IsPaid, IsResting};
 ghost use Rattle.vs_settle.specs.Weight.{weight};
 
 use crate::carrying::carry_out;

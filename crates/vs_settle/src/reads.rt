@@ -6,8 +6,9 @@ ghost use Rattle.vs_machine.specs.Kinds.Collection.{is_garbage, is_sent};
 ghost use Rattle.vs_machine.specs.Kinds.Stops.{is_finished};
 ghost use Rattle.vs_machine.specs.Runs.{IsReached};
 ghost use Rattle.vs_machine.specs.State.{is_link, sets_of};
+ghost use Rattle.vs_machine.specs.Settling.{HasNoMessage};
 ghost use Rattle.vs_world.specs.Played.{state_of};
-ghost use Rattle.vs_settle.specs.Messages.{HasNoMessage, IsOnLine};
+ghost use Rattle.vs_settle.specs.Messages.{IsOnLine};
 ghost use Rattle.vs_settle.specs.Tasks.{receiver_in, sender_in};
 
 use vs_base::{BucketId, SetNo};
@@ -29,8 +30,7 @@ pub(crate) fn set_count(world: &World) -> u8
     ensures count { result ≡ sets_of (state_of world.now) }
     ensures few { result ≤ 32 }
 {
-    given_inputs();
-    world.core().state().config.sets.len() as u8
+    world.core().state().set_count()
 }
 
 /// How many buckets there are.

@@ -2,9 +2,9 @@
 
 ghost use Rattle.std.specs.Prelude.{◌≡◌, ◌≤◌, ◌+◌, ◌-◌, ◌↔◌, true, length, IsTrue, OnOk};
 ghost use Rattle.vs_machine.specs.Kinds.Stops.{is_finished};
-ghost use Rattle.vs_machine.specs.Settling.{IsSettled, settle_bound};
+ghost use Rattle.vs_machine.specs.Settling.{AreUp, IsSettled, settle_bound};
 ghost use Rattle.vs_world.specs.Played.{began, state_of};
-ghost use Rattle.vs_settle.specs.Service.{AreUp, CanSettle, Serves};
+ghost use Rattle.vs_settle.specs.Service.{AddsServices, CanSettle};
 
 use crate::entries::settle_buckets;
 use crate::laws::finished_is_quiet;
@@ -48,7 +48,7 @@ pub fn settle<L: Ledger>(world: &mut World, steps: &mut Steps<L>) -> Result<(), 
     ensures counted { steps.old ≤ steps.new }
 
     // The events before stay, and those that are added are of messages, of recovery and of collection.
-    ensures added { Serves world.old.events world.new.events }
+    ensures added { AddsServices world.old.events world.new.events }
     ensures start { began world.new ≡ began world.old }
 {
     finished_is_quiet();

@@ -10,7 +10,7 @@ use vs_script::{Calls, Commands};
 pub type CommandOutcomes = Items<CommandOutcome>;
 
 /// A client: its calls, what they were answered, and its present call.
-#[derive(Debug, Drop)]
+#[derive(Drop)]
 pub struct ClientTables {
     pub script: Calls,
     pub outcomes: Outcomes,
@@ -18,7 +18,7 @@ pub struct ClientTables {
 }
 
 /// An operator: its commands, what they were answered, and how far its next one has come.
-#[derive(Debug, Drop)]
+#[derive(Drop)]
 pub struct OperatorTables {
     pub script: Commands,
     pub outcomes: CommandOutcomes,

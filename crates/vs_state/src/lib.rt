@@ -14,3 +14,4 @@ pub use actors::{ClientTables, CommandOutcomes, OperatorTables};
 pub use asked::asked_set;
 pub use state::State;
 pub use tables::SetTables;
+pub use vs_machine::{CommandFault, CommandOutcome};

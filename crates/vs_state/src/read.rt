@@ -5,10 +5,11 @@ mod links;
 mod moves;
 mod sets;
 
-ghost use Rattle.std.specs.Prelude.{◌≡◌, Some, None};
+ghost use Rattle.std.specs.Prelude.{◌≡◌, ◌≤◌, Some, None};
 ghost use Rattle.std.specs.Option.{option_copied};
 ghost use Rattle.vs_machine.specs.State as machine;
 ghost use Rattle.vs_state.specs.Plain.{plain};
+ghost use Rattle.vs_state.specs.Sized.{IsSized};
 ghost use Rattle.vs_state.specs.Tables.{numbered};
 
 use crate::actors::{ClientTables, OperatorTables};
@@ -17,6 +18,15 @@ use crate::tables::SetTables;
 use vs_base::{BucketId, ClientNo, OpNo, SetNo};
 
 impl State {
+    /// How many sets the cluster has.
+    pub fn set_count(&self) -> u8
+        requires { IsSized self.now }
+        ensures count { result ≡ machine.sets_of (plain self.now) }
+        ensures few { result ≤ 32 }
+    {
+        self.config.sets.len() as u8
+    }
+
     pub fn has_set(&self, set: SetNo) -> bool
         ensures { result ≡ machine.has_set (plain self.now) set }
     {

@@ -8,7 +8,7 @@ use vs_link::Links;
 
 /// The state of a cluster. Sets, clients and operators stand in the order of their numbers, histories in that of the
 /// buckets.
-#[derive(Debug, Drop)]
+#[derive(Drop)]
 pub struct State {
     pub config: Config,
     pub sets: Vec<SetTables>,

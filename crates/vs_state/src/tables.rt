@@ -12,7 +12,7 @@ use vs_space::Space;
 use vs_table::Table;
 
 /// What a set has in memory. What it has of a bucket stands at the bucket's id in each table.
-#[derive(Debug, Drop)]
+#[derive(Drop)]
 pub struct SetTables {
     pub is_up: bool,
     /// The statuses of its buckets.

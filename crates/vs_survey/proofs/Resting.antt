@@ -18,7 +18,7 @@ use Rattle.vs_send.specs.declared.transfer.Transfer.{Transfer}
 use Rattle.vs_machine.specs.Coherence.{IsServing}
 use Rattle.vs_machine.specs.Inner.Buckets.{BucketFits}
 use Rattle.vs_machine.specs.Inner.Owner.{Owns, Beside}
-use Rattle.vs_machine.specs.Settling.{IsAtOne, IsSettled}
+use Rattle.vs_machine.specs.Settling.{AreUp, HasNoMessage, IsAtOne, IsEmpty, IsSettled, IsSilent}
 use Rattle.vs_machine.specs.State as machine
 use Rattle.vs_machine.specs.State.{sets_of, has_set, has_bucket, is_link}
 use Rattle.vs_machine.specs.Tables.{is_to}
@@ -31,7 +31,7 @@ use Rattle.vs_machine.specs.Opening.{client_at}
 use Rattle.vs_state.specs.Plain.{plain, client, transfer_in}
 use Rattle.vs_state.specs.Statuses.{has_kind, number_at}
 use Rattle.vs_state.specs.Tables.{numbered}
-use Rattle.vs_survey.specs.Readers.{AreUp, AreIdle, IsAtRest, AreAtRest, ArePlaced, HasNoTransfer, IsSilent, IsSilentFrom, AreSilent}
+use Rattle.vs_survey.specs.Readers.{AreIdle, IsAtRest, AreAtRest, ArePlaced, HasNoTransfer, IsSilentFrom}
 use Rattle.vs_core.proofs.Numbered.{numbered_of}
 
 -- ---- entries
@@ -170,14 +170,14 @@ module _ (own : ℕ → ℕ) (s : machine.State) (w : Whole own s) where
 
 -- ---- the whole
 
-pub settled_by : (s : machine.State) → AreUp s → ArePlaced s → ((b x : ℕ) → (s.bucket b).transfer x ≡ None) → AreIdle s → AreSilent s → IsSettled s
+pub settled_by : (s : machine.State) → AreUp s → ArePlaced s → ((b x : ℕ) → (s.bucket b).transfer x ≡ None) → AreIdle s → IsSilent s → IsSettled s
 settled_by s up placed moves idle silent = record {
   up = up;
   placed = placed;
   no_transfer = moves;
   no_open_call = idle;
-  no_message = silent.calls;
-  no_reply = silent.replies;
+  no_message = λ x y ne. (silent x y ne).calls;
+  no_reply = λ x y ne. (silent x y ne).replies;
 }
 
 -- ---- transfers
@@ -190,11 +190,6 @@ none_kept [] none = refl
 none_kept (e ∷ es) none =
     let here : value_of nat_cmp (e ∷ es) e.0 ≡ Some e.1 = ap (λ (t : Bool). cond t (Some e.1) (value_of nat_cmp es e.0)) (itself e.0) in
     absurd (cc (here, none e.0))
-
--- nothing lies on a connection
-record IsEmpty (l : Connection) : Type 0 where
-  calls : l.calls ≡ []
-  replies : l.replies ≡ []
 
 module _ (s : State) where
   transfer_at : (x : ℕ) (t : SetTables) → numbered Some None s.sets.items x ≡ Some t → (b : ℕ) → ((plain s).bucket b).transfer x ≡ transfer_in t b
@@ -246,9 +241,9 @@ module _ (s : State) where
       ap (λ (t : Bool). if t then unused else (line_of s.links x y).connection) apart
       ∙ ap (λ (t : Bool). (if t then slice_index_or s.links.lines (place_of x y) no_line else no_line).connection) test
 
-  silent_there : s.links.sets ≡ length s.config.sets.items → ((x : ℕ) → 1 ≤ x → x ≤ sets_of (plain s) → IsSilentFrom (plain s) x)
-      → (x y : ℕ) → x ≢ y → IsEmpty ((plain s).link x y)
-  silent_there sized each x y ne = by (is_to n x && is_to n y) refl
+  pub silent_everywhere : s.links.sets ≡ length s.config.sets.items → ((x : ℕ) → 1 ≤ x → x ≤ sets_of (plain s) → IsSilentFrom (plain s) x)
+      → IsSilent (plain s)
+  silent_everywhere sized each x y ne = by (is_to n x && is_to n y) refl
     where
       n : ℕ
       n = length s.config.sets.items
@@ -256,7 +251,7 @@ module _ (s : State) where
       apart : (x == y) ≡ false
       apart = ne_eqb x y ne
 
-      both : (is_to n x && is_to n y) ≡ true → IsSilent (plain s) x y
+      both : (is_to n x && is_to n y) ≡ true → HasNoMessage (plain s) x y
       both h =
           let p = both_are (is_to n x) (is_to n y) h in
           each x (grind (arith, nat_tests, p.0)) (grind (arith, nat_tests, p.0)) y (grind (arith, nat_tests, p.1)) (grind (arith, nat_tests, p.1))
@@ -265,16 +260,10 @@ module _ (s : State) where
       by true h = record { calls = none_first (x == y) _ apart (both h).calls; replies = none_first (x == y) _ apart (both h).replies }
       by false h = subst IsEmpty (sym (outside_unused sized x y apart h)) (record { calls = refl; replies = refl })
 
-  pub silent_everywhere : s.links.sets ≡ length s.config.sets.items → ((x : ℕ) → 1 ≤ x → x ≤ sets_of (plain s) → IsSilentFrom (plain s) x) → AreSilent (plain s)
-  silent_everywhere sized each = record {
-    calls = λ x y ne. (silent_there sized each x y ne).calls;
-    replies = λ x y ne. (silent_there sized each x y ne).replies;
-  }
-
-  pub silent_from : AreSilent (plain s) → (x : ℕ) → IsSilentFrom (plain s) x
+  pub silent_from : IsSilent (plain s) → (x : ℕ) → IsSilentFrom (plain s) x
   silent_from h x y from to = record {
-    calls = first_none (x == y) _ (λ e. h.calls x y (eqb-false x y e));
-    replies = first_none (x == y) _ (λ e. h.replies x y (eqb-false x y e));
+    calls = first_none (x == y) _ (λ e. (h x y (eqb-false x y e)).calls);
+    replies = first_none (x == y) _ (λ e. (h x y (eqb-false x y e)).replies);
   }
 
 -- ---- loops

@@ -1,27 +1,13 @@
 -- What is read of a core.
-use Rattle.std.specs.Prelude.{◌≡◌, ◌≢◌, ℕ, ◌≤◌, ◌&&◌, nat_lt, Bool, true, false, List, [], take, Option, Some, None}
+use Rattle.std.specs.Prelude.{◌≡◌, ℕ, ◌≤◌, ◌&&◌, nat_lt, Bool, true, List, take, Option, Some, None}
 use Rattle.std.specs.List.{filter}
-use Rattle.vs_base.specs.declared.numbers.Mode.TheVariants.{Ro}
 use Rattle.vs_space.specs.declared.status.StatusKind.TheVariants.{Sending, Receiving, Sent, Garbage}
-use Rattle.vs_space.specs.declared.status.Verdict.{Verdict}
-use Rattle.vs_space.specs.declared.status.Verdict.TheVariants.{Granted}
-use Rattle.vs_space.specs.Verdict.{verdict_of}
 use Rattle.vs_calls.specs.declared.stage.Stage.TheVariants.{Idle}
-use Rattle.vs_machine.specs.Kinds.Connections.{first_call, first_reply}
-use Rattle.vs_machine.specs.Settling.{IsAtOne}
-use Rattle.vs_machine.specs.State.{State, sets_of, is_draining}
+use Rattle.vs_machine.specs.Settling.{HasNoMessage, IsAtOne}
+use Rattle.vs_machine.specs.State.{State, sets_of}
 use Rattle.vs_machine.specs.Tables.{list_to}
+use Rattle.vs_state.specs.Serving.{serves}
 use Rattle.vs_state.specs.Statuses.{number_at}
-
--- ---- which set answers reads of a bucket
-
-abbrev pub is_granted : Verdict → Bool
-is_granted Granted = true
-is_granted v = false
-
--- the set is up, and grants a read of the bucket
-abbrev pub serves : State → ℕ → ℕ → Bool
-serves s x b = let k = s.bucket b in s.up x && is_granted (verdict_of (k.entry x) (is_draining (k.transfer x)) Ro)
 
 -- ---- a page of the buckets that a set serves
 
@@ -37,9 +23,6 @@ abbrev pub page : State → ℕ → Option ℕ → List ℕ
 page s x after = take 1000 (filter (is_listed s x after) (list_to (λ b. b) s.config.bucket_count))
 
 -- ---- whether a cluster is settled
-
-abbrev pub AreUp : State → Type 0
-AreUp s = (x : ℕ) → 1 ≤ x → x ≤ sets_of s → s.up x ≡ true
 
 -- the set has its buckets active or pinned, and nothing left of another
 pub record IsAtRest (s : State) (x : ℕ) : Type 0 where
@@ -61,14 +44,6 @@ HasNoTransfer s x = (b : ℕ) → (s.bucket b).transfer x ≡ None
 abbrev pub AreIdle : State → Type 0
 AreIdle s = (c : ℕ) → (s.client c).present.stage ≡ Idle
 
--- no message and no reply lies on the connection
-pub record IsSilent (s : State) (x y : ℕ) : Type 0 where
-  pub calls : first_call s x y ≡ None
-  pub replies : first_reply s x y ≡ None
-
+-- no message and no reply lies between the set and another
 abbrev pub IsSilentFrom : State → ℕ → Type 0
-IsSilentFrom s x = (y : ℕ) → 1 ≤ y → y ≤ sets_of s → IsSilent s x y
-
-pub record AreSilent (s : State) : Type 0 where
-  pub calls : (x y : ℕ) → x ≢ y → (s.link x y).calls ≡ []
-  pub replies : (x y : ℕ) → x ≢ y → (s.link x y).replies ≡ []
+IsSilentFrom s x = (y : ℕ) → 1 ≤ y → y ≤ sets_of s → HasNoMessage s x y

@@ -3,6 +3,7 @@
 ghost use Rattle.std.specs.Prelude.{◌≡◌, ◌≤◌, ◌++◌, ◌∷◌, [], IfOk, OnOk};
 ghost use Rattle.vs_core.specs.Core.{means};
 ghost use Rattle.vs_state.specs.Plain.{plain};
+ghost use Rattle.vs_state.specs.Serving.{serves};
 ghost use Rattle.vs_survey.specs.Readers as readers;
 
 use vs_base::{BucketId, Items, NoMemory, SetNo};
@@ -14,13 +15,6 @@ pub type Ids = Items<BucketId>;
 
 /// So many ids are in a page at most.
 const PAGE: usize = 1_000;
-
-/// Whether a set is up and grants reads of a bucket.
-fn serves_in(state: &State, set: SetNo, bucket: BucketId) -> bool
-    ensures { result ≡ readers.serves (plain state.now) set bucket }
-{
-    state.serves(set, bucket)
-}
 
 /// Whether a bucket comes after this one, where one is given.
 fn is_above(after: &Option<BucketId>, bucket: BucketId) -> bool
@@ -36,7 +30,7 @@ fn is_above(after: &Option<BucketId>, bucket: BucketId) -> bool
 fn is_listed(state: &State, set: SetNo, after: &Option<BucketId>, bucket: BucketId) -> bool
     ensures { result ≡ readers.is_listed (plain state.now) set after.now bucket }
 {
-    is_above(after, bucket) && serves_in(state, set, bucket)
+    is_above(after, bucket) && state.serves(set, bucket)
 }
 
 /// Adds an id.
@@ -70,9 +64,9 @@ fn page_of(state: &State, set: SetNo, after: &Option<BucketId>) -> Result<Ids, N
 
 /// Whether a set is up and would grant a read of a bucket.
 pub fn serves(core: &Core, set: SetNo, bucket: BucketId) -> bool
-    ensures { result ≡ readers.serves (means core.now) set bucket }
+    ensures { result ≡ serves (means core.now) set bucket }
 {
-    serves_in(core.state(), set, bucket)
+    core.state().serves(set, bucket)
 }
 
 /// The first 1,000 buckets above `after` that a set serves, in rising order. The next page comes after its last id.

@@ -1,36 +1,27 @@
 //! Whether all is answered, and whether a cluster is settled. No call takes memory.
 
-ghost use Rattle.std.specs.Prelude.{◌≡◌, ◌≤◌, ◌↔◌, ℕ, IsTrue, None};
-ghost use Rattle.vs_machine.specs.Settling.{IsSettled};
-ghost use Rattle.vs_machine.specs.State.{sets_of};
+ghost use Rattle.std.specs.Prelude.{◌≡◌, ◌↔◌, ℕ, IsTrue, None};
+ghost use Rattle.vs_machine.specs.Settling.{AreUp, HasNoMessage, IsSettled, IsSilent};
 ghost use Rattle.vs_state.specs.Plain.{plain};
 ghost use Rattle.vs_state.specs.Sized.{IsSized, OnlyItsBuckets};
 ghost use Rattle.vs_core.specs.Core.{means};
 ghost use Rattle.vs_machine.specs.Kinds.Stops.{is_finished};
 ghost use Rattle.vs_machine.specs.Whole.{Whole};
-ghost use Rattle.vs_survey.specs.Readers.{AreUp, IsAtRest, AreAtRest, ArePlaced, HasNoTransfer, AreIdle, IsSilent, IsSilentFrom, AreSilent};
+ghost use Rattle.vs_survey.specs.Readers.{IsAtRest, AreAtRest, ArePlaced, HasNoTransfer, AreIdle, IsSilentFrom};
 
 use vs_base::{ClientNo, SetNo};
 use vs_calls::Stage;
 use vs_core::Core;
-use vs_machine::{every_event, given_inputs};
+use vs_machine::every_event;
 use vs_space::StatusKind;
 use vs_state::State;
 
-/// How many sets there are.
-fn set_count(state: &State) -> u8
-    requires { sets_of (plain state.now) ≤ 32 }
-    ensures { result ≡ sets_of (plain state.now) }
-{
-    state.config.sets.len() as u8
-}
-
 /// Whether all sets are up.
 fn are_up(state: &State) -> bool
-    requires { sets_of (plain state.now) ≤ 32 }
+    requires { IsSized state.now }
     ensures { IsTrue result ↔ AreUp (plain state.now) }
 {
-    for index in 0..set_count(state) {
+    for index in 0..state.set_count() {
         let Some(set) = SetNo::new(index + 1) else {
             unreachable!()
         };
@@ -55,12 +46,11 @@ fn is_at_rest(state: &State, set: SetNo) -> bool
 
 /// Whether all sets have their buckets active or pinned.
 fn are_at_rest(state: &State) -> bool
-    requires few { sets_of (plain state.now) ≤ 32 }
     requires sized { IsSized state.now }
     requires buckets { OnlyItsBuckets (plain state.now) }
     ensures { IsTrue result ↔ AreAtRest (plain state.now) }
 {
-    for index in 0..set_count(state) {
+    for index in 0..state.set_count() {
         let Some(set) = SetNo::new(index + 1) else {
             unreachable!()
         };
@@ -73,7 +63,6 @@ fn are_at_rest(state: &State) -> bool
 
 /// Whether each bucket is active or pinned at one set, and no other has anything of it.
 fn are_placed(state: &State) -> bool
-    requires few { sets_of (plain state.now) ≤ 32 }
     requires sized { IsSized state.now }
     requires whole { (own : ℕ → ℕ) × Whole own (plain state.now) }
     ensures { IsTrue result ↔ ArePlaced (plain state.now) }
@@ -93,11 +82,10 @@ fn has_no_transfer(state: &State, set: SetNo) -> bool
 
 /// Whether no transfer is under way.
 fn have_no_transfer(state: &State) -> bool
-    requires few { sets_of (plain state.now) ≤ 32 }
     requires sized { IsSized state.now }
     ensures { IsTrue result ↔ ((b x : ℕ) → ((plain state.now).bucket b).transfer x ≡ None) }
 {
-    for index in 0..set_count(state) {
+    for index in 0..state.set_count() {
         let Some(set) = SetNo::new(index + 1) else {
             unreachable!()
         };
@@ -126,24 +114,23 @@ fn are_idle(state: &State) -> bool
 }
 
 /// Whether no message and no reply lies on a connection.
-fn is_silent(state: &State, from: SetNo, to: SetNo) -> bool
+fn has_no_message(state: &State, from: SetNo, to: SetNo) -> bool
     requires { IsSized state.now }
-    ensures { IsTrue result ↔ IsSilent (plain state.now) from to }
+    ensures { IsTrue result ↔ HasNoMessage (plain state.now) from to }
 {
     state.head_call(from, to).is_none() && state.head_reply(from, to).is_none()
 }
 
 /// Whether nothing lies on the connections from a set.
 fn is_silent_from(state: &State, from: SetNo) -> bool
-    requires few { sets_of (plain state.now) ≤ 32 }
     requires sized { IsSized state.now }
     ensures { IsTrue result ↔ IsSilentFrom (plain state.now) from }
 {
-    for index in 0..set_count(state) {
+    for index in 0..state.set_count() {
         let Some(to) = SetNo::new(index + 1) else {
             unreachable!()
         };
-        if !is_silent(state, from, to) {
+        if !has_no_message(state, from, to) {
             return false;
         }
     }
@@ -152,11 +139,10 @@ fn is_silent_from(state: &State, from: SetNo) -> bool
 
 /// Whether nothing lies on any connection.
 fn are_silent(state: &State) -> bool
-    requires few { sets_of (plain state.now) ≤ 32 }
     requires sized { IsSized state.now }
-    ensures { IsTrue result ↔ AreSilent (plain state.now) }
+    ensures { IsTrue result ↔ IsSilent (plain state.now) }
 {
-    for index in 0..set_count(state) {
+    for index in 0..state.set_count() {
         let Some(from) = SetNo::new(index + 1) else {
             unreachable!()
         };
@@ -169,7 +155,6 @@ fn are_silent(state: &State) -> bool
 
 /// Whether a cluster is settled.
 fn is_settled(state: &State) -> bool
-    requires few { sets_of (plain state.now) ≤ 32 }
     requires sized { IsSized state.now }
     requires whole { (own : ℕ → ℕ) × Whole own (plain state.now) }
     ensures { IsTrue result ↔ IsSettled (plain state.now) }
@@ -193,6 +178,5 @@ pub fn settled(core: &Core) -> bool
     ensures { IsTrue result ↔ IsSettled (means core.now) }
 {
     every_event();
-    given_inputs();
     is_settled(core.state())
 }

@@ -7,7 +7,7 @@ use vs_host::HostFailed;
 use vs_inputs::{InputFault, TextFault};
 
 /// Why files are not played. An input is named by the place of its file among the words after the command, from 1.
-#[derive(Clone, Copy, Debug, PartialEq, Eq)]
+#[derive(Clone, Copy, Debug)]
 pub enum Fault {
     /// The words are no command.
     Words,

@@ -20,7 +20,7 @@ use vs_script::Scripts;
 use vs_world::{StepFault, World};
 
 /// Why events were not all played.
-#[derive(Clone, Copy, Debug, PartialEq, Eq)]
+#[derive(Clone, Copy, Debug)]
 pub enum PlayFault {
     /// The event of this number, counted from 1, is impossible after those before it.
     Event(u64, Reason),

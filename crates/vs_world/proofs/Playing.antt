@@ -1,5 +1,5 @@
 -- How a list of events grows.
-use Rattle.std.proofs.Common.{◌≡◌, ℕ, List, length, [], ◌∷◌, ◌++◌, Result, Ok, Err, refl, sym, ap, ◌∙◌}
+use Rattle.std.proofs.Common.{◌≡◌, ℕ, List, length, [], ◌∷◌, ◌++◌, Result, Ok, Err, refl, sym, ap, subst, ◌∙◌}
 use Rattle.std.specs.Prelude.{◌↔◌}
 use Rattle.vs_event.specs.declared.event.Event.{Event}
 use Rattle.vs_event.specs.declared.reason.Reason.{Reason}
@@ -10,6 +10,7 @@ use Rattle.vs_machine.specs.State.{State}
 use Rattle.vs_machine.specs.Step.{step, run}
 use Rattle.vs_state.specs.Guard.{verdict}
 use Rattle.vs_core.specs.Booted.{booted}
+use Rattle.vs_core.specs.Safety.{IsSafeRun, SafeRuns}
 use Rattle.vs_world.specs.declared.fault.StepFault.{StepFault}
 use Rattle.vs_world.specs.declared.fault.StepFault.TheVariants.{NotNow}
 use Rattle.vs_world.specs.Played.{Played, state_of, began, start_of, IsRun}
@@ -63,6 +64,10 @@ is_run_same p q before same events = record {
   starts = ap start_of same ∙ before.starts;
   runs = ap (λ list. run (began q) list) events ∙ ap (λ s. run (start_of s) p.events) same ∙ before.runs ∙ ap Ok (sym same);
 }
+
+-- a run from a coherent opening is safe
+pub is_safe_run : SafeRuns → (p : Played) → IsRun p → IsSafeRun (began p) p.events
+is_safe_run law p r = subst (λ (first : State). IsSafeRun first p.events) (sym r.starts) (law r.config r.scripts (booted r.config) p.events r.opens)
 
 -- ---- refusals
 

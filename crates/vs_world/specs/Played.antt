@@ -1,5 +1,5 @@
 -- A cluster with the list of its events.
-use Rattle.std.specs.Prelude.{◌≡◌, ℕ, true, List, None, Ok}
+use Rattle.std.specs.Prelude.{◌≡◌, true, List, None, Ok}
 use Rattle.vs_event.specs.declared.event.Event.{Event}
 use Rattle.vs_config.specs.Configuration.{Configuration}
 use Rattle.vs_link.specs.Connection.{unused}

@@ -4,7 +4,7 @@ use vs_base::NoMemory;
 use vs_event::Reason;
 
 /// Why an event isn't carried out.
-#[derive(Clone, Copy, Debug, PartialEq, Eq)]
+#[derive(Clone, Copy, Debug)]
 pub enum StepFault {
     /// It can't happen now, for this reason.
     NotNow(Reason),

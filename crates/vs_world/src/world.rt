@@ -4,8 +4,9 @@ ghost use Rattle.std.specs.Prelude.{◌≡◌, ◌↔◌, ◌++◌, ◌∷◌, [
 ghost use Rattle.vs_config.specs.Configuration.{configuration};
 ghost use Rattle.vs_core.specs.Booted.{booted};
 ghost use Rattle.vs_core.specs.Core.{means};
-ghost use Rattle.vs_core.specs.Safety.{IsSafe, IsSafeEvent};
+ghost use Rattle.vs_core.specs.Safety.{IsSafe, IsSafeEvent, IsSafeRun};
 ghost use Rattle.vs_machine.specs.Opening.{IsLawful, opening};
+ghost use Rattle.vs_machine.specs.Runs.{IsOpening};
 ghost use Rattle.vs_machine.specs.Step.{step};
 ghost use Rattle.vs_script.specs.Scripts as script;
 ghost use Rattle.vs_state.specs.Guard.{verdict};
@@ -16,14 +17,14 @@ use std::alloc::Global;
 use std::marker::Model;
 use vs_base::NoMemory;
 use vs_config::Config;
-use vs_core::Core;
+use vs_core::{Core, CoreFault, new_states, safe_runs};
 use vs_event::{Event, Reason, Trace};
 use vs_machine::given_inputs;
 use vs_script::Scripts;
 
 /// A cluster, and the list of all its events: the state is where they lead from a new cluster. No copy of the
 /// configuration and the scripts is kept, since no event changes them.
-#[derive(Debug, Drop)]
+#[derive(Drop)]
 pub struct World {
     core: Core,
     events: Trace,
@@ -37,6 +38,21 @@ impl Model for World {
     ghost view = { λ w. record { tables = w.core.state; events = w.events.items } };
 
     ghost invariant = { λ w. IsRun (record { tables = w.core.state; events = w.events.items }) };
+}
+
+/// A new cluster.
+fn new_core(alloc: Global, config: &Config, scripts: Scripts) -> Result<Core, NoMemory>
+    requires { IsLawful (configuration config.now) (script.scripts scripts) }
+    ensures opening { IfOk result (λ core. means core
+        ≡ opening (configuration config.now) (script.scripts scripts) (booted (configuration config.now))) }
+    ensures coherent { OnOk result (IsOpening (configuration config.now) (script.scripts scripts) (booted (configuration config.now))) }
+{
+    let states = new_states(alloc, config)?;
+    match Core::new(config, scripts, states) {
+        Ok(core) => Ok(core),
+        Err(CoreFault::NoMemory) => Err(NoMemory),
+        Err(CoreFault::Incoherent { .. }) => unreachable!(),
+    }
 }
 
 /// Carries out an event that is possible, and adds it to the list. All memory is taken first.
@@ -66,7 +82,7 @@ impl World {
         ensures state { IfOk result (λ world. state_of world ≡ began world) }
         ensures events { IfOk result (λ world. world.events ≡ []) }
     {
-        let core = Core::boot(alloc, config, scripts)?;
+        let core = new_core(alloc, &config, scripts)?;
         Ok(World {
             core,
             events: Trace::new(alloc),
@@ -104,7 +120,11 @@ impl World {
         // What is promised of every run holds of this event, and of the state after it.
         ensures event { OnOk result (IsSafeEvent (state_of self.old) event (state_of self.new)) }
         ensures safe { OnOk result (IsSafe (state_of self.new)) }
+
+        // Of the whole list too, whatever the answer.
+        ensures run { IsSafeRun (began self.new) self.new.events }
     {
+        safe_runs();
         given_inputs();
         if let Err(reason) = self.core.can(&event) {
             return Err(StepFault::NotNow(reason));

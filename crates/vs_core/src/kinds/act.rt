@@ -25,7 +25,7 @@ use vs_space::Status;
 use vs_state::State;
 
 /// What a call needs that acts.
-#[derive(Debug, Drop)]
+#[derive(Drop)]
 pub struct PreparedAct {
     pub ops: Ops,
     /// The answers, for the history and for the client.
@@ -91,7 +91,7 @@ pub(crate) fn reserve_act(state: &mut State, client: ClientNo) -> Result<Prepare
     ensures sound { IsSound state.new }
 {
     let (Some(call), Some(set)) = (state.next_call(client), state.call_set(client)) else {
-        return Err(NoMemory);
+        unreachable!()
     };
     let bucket = call.bucket;
     let ops = call.ops.try_clone()?;

@@ -24,7 +24,7 @@ pub(crate) fn reserve_ask(state: &mut State, set: SetNo, bucket: BucketId) -> Re
 {
     let entry = state.entry(set, bucket);
     let Some(other) = asked_set(&entry) else {
-        return Err(NoMemory);
+        unreachable!()
     };
     asking::reserve_ask(state, set)?;
     reserve_post(state, set, other)

@@ -20,7 +20,7 @@ use vs_state::State;
 const MAX_ROWS: u16 = 1_000;
 
 /// The rows that a set sends next, and the key of the last of them.
-#[derive(Debug, Drop)]
+#[derive(Drop)]
 pub struct PreparedChunk {
     pub page: Page,
     pub last: Option<Key>,
@@ -70,11 +70,11 @@ pub(crate) fn reserve_chunk(
     ensures sound { IsSound state.new }
 {
     let Some(transfer) = state.transfer(set, bucket) else {
-        return Err(NoMemory);
+        unreachable!()
     };
     let dest = transfer.dest;
     let Phase::Ready(after) = &transfer.phase else {
-        return Err(NoMemory);
+        unreachable!()
     };
     let page = next_page(state, set, bucket, after.as_ref())?;
     let last = last_key(&page)?;

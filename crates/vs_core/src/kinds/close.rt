@@ -27,7 +27,7 @@ pub(crate) fn reserve_close(state: &mut State, operator: OpNo) -> Result<(), NoM
     ensures sound { IsSound state.new }
 {
     let Some(Command::Close(from, to)) = state.next_command(operator) else {
-        return Err(NoMemory);
+        unreachable!()
     };
     if state.epoch(*from, *to) >= END {
         return Err(NoMemory);

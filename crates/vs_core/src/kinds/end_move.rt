@@ -53,7 +53,7 @@ pub(crate) fn reserve_abort(state: &mut State, set: SetNo, bucket: BucketId) -> 
     ensures sound { IsSound state.new }
 {
     let Some(transfer) = state.transfer(set, bucket) else {
-        return Err(NoMemory);
+        unreachable!()
     };
     match transfer.by {
         By::Command(operator) => reserve_answer(state, operator),
@@ -98,7 +98,7 @@ pub(crate) fn reserve_end_move(
     ensures sound { IsSound state.new }
 {
     let Some(transfer) = state.transfer(set, bucket) else {
-        return Err(NoMemory);
+        unreachable!()
     };
     match transfer.by {
         By::Command(operator) => reserve_answer(state, operator),

@@ -18,7 +18,7 @@ use vs_record::Change;
 use vs_state::{SetTables, State};
 
 /// The change that may be in the journal.
-#[derive(Debug, Drop)]
+#[derive(Drop)]
 pub struct PreparedFault {
     pub change: Change,
 }
@@ -40,7 +40,7 @@ pub(crate) fn reserve_fault(
     // The number takes no memory.
     let _ = number;
     let Some(change) = change_of(state, recorded)? else {
-        return Err(NoMemory);
+        unreachable!()
     };
     reserve_going_down(state, set)?;
     Ok(PreparedFault { change })

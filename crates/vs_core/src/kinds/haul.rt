@@ -1,7 +1,6 @@
 //! A round of an operator's `balance` command moves a bucket.
 
 ghost use Rattle.std.specs.Prelude.{◌≡◌, ◌≤◌, ◌-◌, Ok, IfOk};
-ghost use Rattle.vs_machine.specs.Tables.{least_to};
 ghost use Rattle.vs_machine.specs.Kinds.Rebalancing as rebalancing;
 ghost use Rattle.vs_state.specs.Guard.{verdict};
 ghost use Rattle.vs_state.specs.Plain.{plain};
@@ -14,50 +13,13 @@ use crate::routes::{left_on, with_left};
 use vs_balance::Routes;
 use vs_base::{BucketId, NoMemory, OpNo, SetNo};
 use vs_send::By;
-use vs_space::Status;
 use vs_state::State;
 
 /// The bucket that is moved, if there is one, and the routes with what is left of them after that.
-#[derive(Debug, Drop)]
+#[derive(Drop)]
 pub struct PreparedHaul {
     pub bucket: Option<BucketId>,
     pub routes: Routes,
-}
-
-/// Whether a bucket is active at a set, without a transfer.
-fn is_free(state: &State, set: SetNo, bucket: BucketId) -> bool
-    ensures { result ≡ rebalancing.is_free (plain state.now) set bucket }
-{
-    let is_active = matches!(state.entry(set, bucket), Some(Status::Active));
-    is_active && state.transfer(set, bucket).is_none()
-}
-
-/// The least bucket that is active at a set without a transfer.
-fn first_free(state: &State, set: SetNo) -> Option<BucketId>
-    requires { state.now.config.bucket_count ≤ 30000 }
-    ensures { result ≡ least_to (rebalancing.is_free (plain state.now) set) state.now.config.bucket_count }
-{
-    for before in 0..state.config.bucket_count {
-        let Some(bucket) = BucketId::new(before + 1) else {
-            return None;
-        };
-        if is_free(state, set, bucket) {
-            return Some(bucket);
-        }
-    }
-    None
-}
-
-/// The bucket that is moved next from a set to another, where both are up.
-fn bucket_to_haul(state: &State, from: SetNo, to: SetNo) -> Option<BucketId>
-    requires { state.now.config.bucket_count ≤ 30000 }
-    ensures { result ≡ rebalancing.bucket_to_haul (plain state.now) from to }
-{
-    if state.up(from) && state.up(to) {
-        first_free(state, from)
-    } else {
-        None
-    }
 }
 
 /// What is left of the routes once this bucket is moved. Where there is none, nothing is left on that route.
@@ -91,9 +53,9 @@ pub(crate) fn reserve_haul(
     ensures same { plain state.new ≡ plain state.old }
     ensures sound { IsSound state.new }
 {
-    let bucket = bucket_to_haul(state, from, to);
+    let bucket = state.bucket_to_haul(from, to);
     let Some(tables) = state.operator(operator) else {
-        return Err(NoMemory);
+        unreachable!()
     };
     let routes = routes_after(&tables.routes, from, to, &bucket)?;
     moves::reserve_begin(state, from)?;

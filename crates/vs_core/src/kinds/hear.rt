@@ -1,12 +1,10 @@
 //! A set hears a reply.
 
-ghost use Rattle.std.specs.Prelude.{◌≡◌, true, option_map, Ok, OnOk};
+ghost use Rattle.std.specs.Prelude.{◌≡◌, true, Ok, OnOk};
 ghost use Rattle.vs_machine.specs.Kinds.Connections as connections;
 ghost use Rattle.vs_machine.specs.State as machine;
 ghost use Rattle.vs_state.specs.Guard.{verdict};
-ghost use Rattle.vs_state.specs.Plain as tables;
 ghost use Rattle.vs_state.specs.Plain.{plain};
-ghost use Rattle.vs_state.specs.Sized.{IsSized};
 ghost use Rattle.vs_core.specs.Keeps.{IsKnown, IsSound};
 ghost use Rattle.vs_core.specs.References.{HasReferenceRoom};
 
@@ -16,51 +14,8 @@ use crate::posting::drop_reply;
 use crate::references::reserve_reference;
 use vs_base::{NoMemory, SetNo};
 use vs_link::{Heard, Reply};
-use vs_recover::{Decision, decide};
 use vs_space::Status;
-use vs_state::{State, asked_set};
-
-/// Whether an ask has this epoch and this number.
-fn is_ask(ask: Option<(u64, u64)>, epoch: u64, number: u64) -> bool
-    ensures { result ≡ connections.is_ask (option_map tables.ask ask) epoch number }
-{
-    match ask {
-        Some((asked_in, asked_by)) => asked_in == epoch && asked_by == number,
-        None => false,
-    }
-}
-
-/// Whether this set is the one that is asked about a bucket of this status.
-fn is_asked(entry: &Option<Status>, set: SetNo) -> bool
-    ensures { result ≡ connections.is_set_named (connections.asked_set entry.now) set }
-{
-    match asked_set(entry) {
-        Some(asked) => asked == set,
-        None => false,
-    }
-}
-
-/// Whether the answer counts: it is for the live ask, and comes from the set that was asked.
-fn counts(state: &State, set: SetNo, from: SetNo, heard: &Heard) -> bool
-    requires { IsSized state.now }
-    ensures { result ≡ connections.counts_at ((plain state.now).bucket heard.now.bucket)
-        ((plain state.now).link set from).epoch set from heard.now.sync }
-{
-    let entry = state.entry(set, heard.bucket);
-    let ask = state.ask(set, heard.bucket);
-    let epoch = state.epoch(set, from);
-    is_ask(ask, epoch, heard.sync) && is_asked(&entry, from)
-}
-
-/// What a set decides about a bucket of this status, where the other set answered its own, and whether a transfer is live.
-fn decide_on(entry: &Option<Status>, remote: &Option<Status>, live: bool) -> Decision
-    ensures { result ≡ connections.decision_by entry.now remote.now live }
-{
-    match entry {
-        Some(local) => decide(*local, *remote, live),
-        None => Decision::Stay,
-    }
-}
+use vs_state::State;
 
 /// The answer to an ask was heard. Where it counts, the set decides by it, and the ask ends.
 fn hear_answer(
@@ -81,11 +36,10 @@ fn hear_answer(
         ((plain state.old).link set from).epoch set from heard.now.sync remote.now live) }
     ensures sound { IsSound state.new }
 {
-    if !counts(state, set, from, heard) {
+    if !state.answer_counts(set, from, heard.bucket, heard.sync) {
         return;
     }
-    let entry = state.entry(set, heard.bucket);
-    let decision = decide_on(&entry, remote, live);
+    let decision = state.decision(set, heard.bucket, *remote, live);
     settle(state, set, heard.bucket, decision);
 }
 

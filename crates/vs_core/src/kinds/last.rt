@@ -23,7 +23,7 @@ pub(crate) fn reserve_last(state: &mut State, set: SetNo, bucket: BucketId) -> R
     ensures sound { IsSound state.new }
 {
     let Some(transfer) = state.transfer(set, bucket) else {
-        return Err(NoMemory);
+        unreachable!()
     };
     let dest = transfer.dest;
     reserve_post(state, set, dest)

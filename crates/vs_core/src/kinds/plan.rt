@@ -20,7 +20,7 @@ use vs_machine::{CommandFault, CommandOutcome};
 use vs_state::{OperatorTables, State};
 
 /// What a plan comes to.
-#[derive(Debug, Drop)]
+#[derive(Drop)]
 pub enum PreparedPlan {
     /// The command is answered, and no further round begins.
     Answer(CommandOutcome),
@@ -29,7 +29,7 @@ pub enum PreparedPlan {
 }
 
 /// How far the sets are from their ideal counts.
-#[derive(Debug, Drop)]
+#[derive(Drop)]
 struct Balance {
     is_near: bool,
     /// The routes by which they come to these.
@@ -42,11 +42,11 @@ fn views(alloc: Global, state: &State) -> Result<Vec<SetView>, NoMemory>
     requires buckets { OnlyItsBuckets (plain state.now) }
     ensures { IfOk result (λ views. views.items ≡ rebalancing.views_of (plain state.now)) }
 {
-    let count = state.config.sets.len() as u8;
+    let count = state.set_count();
     let mut views = Vec::with_capacity(alloc, usize::from(count))?;
     for index in 0..count {
         let Some(set) = SetNo::new(index + 1) else {
-            return Err(NoMemory);
+            unreachable!()
         };
         views.push(state.view(set))?;
     }
@@ -98,7 +98,7 @@ fn prepare(state: &State, operator: OpNo) -> Result<PreparedPlan, NoMemory>
         return Ok(PreparedPlan::Answer(CommandOutcome::Refused(CommandFault::Down(set))));
     }
     let Some(tables) = state.operator(operator) else {
-        return Err(NoMemory);
+        unreachable!()
     };
     let balance = weigh(state)?;
     Ok(next_step(tables, balance))

@@ -21,7 +21,7 @@ use vs_rows::Staged;
 use vs_state::State;
 
 /// What is made ahead.
-#[derive(Debug, Drop)]
+#[derive(Drop)]
 pub struct PreparedRestart {
     /// The references of the set, once it is up.
     pub refs: Refs,

@@ -24,7 +24,7 @@ pub(crate) fn reserve_stop(state: &mut State, operator: OpNo) -> Result<(), NoMe
     ensures sound { IsSound state.new }
 {
     let Some(Command::Stop(set)) = state.next_command(operator) else {
-        return Err(NoMemory);
+        unreachable!()
     };
     let set = *set;
     reserve_going_down(state, set)

@@ -12,14 +12,12 @@ ghost use Rattle.vs_core.specs.Taking.{HasTakeRoom, IsTakeReady};
 use vs_base::{ClientNo, NoMemory};
 use vs_state::{ClientTables, State};
 
-/// Makes room for the answer of the present call. The numbers of calls end at 2^32 - 1.
+/// Makes room for the answer of the present call.
 fn reserve_outcome(tables: &mut ClientTables) -> Result<(), NoMemory>
+    requires { tables.old.present.number < 2 ^ 32 - 1 }
     ensures room { OnOk result (HasTakeRoom tables.new) }
     ensures same { client tables.new ≡ client tables.old }
 {
-    if tables.present.number() == u32::MAX {
-        return Err(NoMemory);
-    }
     tables.outcomes.reserve()
 }
 

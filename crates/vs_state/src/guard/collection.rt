@@ -1,7 +1,7 @@
-//! Whether a set can delete what it has of a bucket that it sent.
+//! Whether a set can delete what it has of a bucket that it sent: by the rules of vs_collect, where the set is up.
 
 ghost use Rattle.std.specs.Prelude.{◌≡◌};
-ghost use Rattle.vs_machine.specs.Kinds.Collection.{condemn, wipe, forget};
+ghost use Rattle.vs_machine.specs.Kinds.Collection as collection;
 ghost use Rattle.vs_state.specs.Agrees.{Agrees};
 ghost use Rattle.vs_state.specs.Guard.{verdict};
 ghost use Rattle.vs_state.specs.Plain.{plain};
@@ -9,13 +9,37 @@ ghost use Rattle.vs_state.specs.Plain.{plain};
 use super::needs;
 use crate::state::State;
 use vs_base::{BucketId, SetNo};
+use vs_collect::{Unmet, condemn, forget};
 use vs_event::Reason;
 use vs_space::Status;
+
+/// The reason of the same name.
+fn reason_of(cause: Unmet) -> Reason
+    ensures { result ≡ collection.reason_of cause }
+{
+    match cause {
+        Unmet::Unfit(entry) => Reason::Unfit(entry),
+        Unmet::Live => Reason::Live,
+        Unmet::Referenced(reads) => Reason::Referenced(reads),
+        Unmet::NoRows => Reason::NoRows,
+        Unmet::Rows(rows) => Reason::Rows(rows),
+    }
+}
+
+/// What the rules allow, or the reason why they don't.
+fn allowed(answer: Result<(), Unmet>) -> Result<(), Reason>
+    ensures { result ≡ collection.allowed answer }
+{
+    match answer {
+        Ok(()) => Ok(()),
+        Err(cause) => Err(reason_of(cause)),
+    }
+}
 
 impl State {
     pub(crate) fn can_condemn(&self, set: SetNo, bucket: BucketId) -> Result<(), Reason>
         requires { Agrees self.now }
-        ensures { result ≡ verdict (condemn (plain self.now) set bucket) }
+        ensures { result ≡ verdict (collection.condemn (plain self.now) set bucket) }
     {
         if !self.has_set(set) || !self.has_bucket(bucket) {
             return Err(Reason::Unknown);
@@ -24,18 +48,13 @@ impl State {
             return Err(Reason::Down(set));
         }
         let entry = self.entry(set, bucket);
-        if !matches!(entry, Some(Status::Sent(_))) {
-            return Err(Reason::Unfit(entry));
-        }
-        if self.transfer(set, bucket).is_some() {
-            return Err(Reason::Live);
-        }
+        let live = self.transfer(set, bucket).is_some();
         let reads = self.counts(set, bucket).ro;
-        needs(reads == 0, Reason::Referenced(reads))
+        allowed(condemn(entry, live, reads))
     }
 
     pub(crate) fn can_wipe(&self, set: SetNo, bucket: BucketId) -> Result<(), Reason>
-        ensures { result ≡ verdict (wipe (plain self.now) set bucket) }
+        ensures { result ≡ verdict (collection.wipe (plain self.now) set bucket) }
     {
         if !self.has_set(set) || !self.has_bucket(bucket) {
             return Err(Reason::Unknown);
@@ -51,7 +70,7 @@ impl State {
     }
 
     pub(crate) fn can_forget(&self, set: SetNo, bucket: BucketId) -> Result<(), Reason>
-        ensures { result ≡ verdict (forget (plain self.now) set bucket) }
+        ensures { result ≡ verdict (collection.forget (plain self.now) set bucket) }
     {
         if !self.has_set(set) || !self.has_bucket(bucket) {
             return Err(Reason::Unknown);
@@ -60,10 +79,10 @@ impl State {
             return Err(Reason::Down(set));
         }
         let entry = self.entry(set, bucket);
-        if !matches!(entry, Some(Status::Garbage)) {
-            return Err(Reason::Unfit(entry));
-        }
-        let rows = self.row_count(set, bucket);
-        needs(rows == 0, Reason::Rows(rows))
+        let rows = match self.rows(set, bucket) {
+            Some(rows) => rows.len(),
+            None => 0,
+        };
+        allowed(forget(entry, rows))
     }
 }

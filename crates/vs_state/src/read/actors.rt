@@ -14,12 +14,11 @@ ghost use Rattle.vs_machine.specs.Tables.{count_to};
 ghost use Rattle.vs_state.specs.Plain.{plain, client, operator};
 ghost use Rattle.vs_state.specs.Sized.{IsSized};
 
-use crate::actors::{ClientTables, OperatorTables};
+use crate::actors::{ClientTables, CommandOutcomes, OperatorTables};
 use crate::state::State;
 use vs_base::{BucketId, CallId, ClientNo, OpNo, SetNo};
-use vs_calls::{CallState, Outcome, Stage};
+use vs_calls::{CallState, Outcomes, Stage};
 use vs_history::History;
-use vs_machine::CommandOutcome;
 use vs_script::{Call, Command};
 
 impl ClientTables {
@@ -108,10 +107,9 @@ impl State {
         requires { machine.has_client (plain self.now) client ≡ true }
         ensures { result ≡ machine.call_id client ((plain self.now).client client) }
     {
-        let tables = &self.clients[usize::from(client.get()) - 1];
         CallId {
             client,
-            call: tables.present.number(),
+            call: self.call_state(client).number(),
         }
     }
 
@@ -134,13 +132,11 @@ impl State {
     }
 
     /// What a client's calls were answered, in order.
-    pub fn outcomes(&self, client: ClientNo) -> &[Outcome]
+    pub fn outcomes(&self, client: ClientNo) -> &Outcomes
         requires { machine.has_client (plain self.now) client ≡ true }
-        ensures { outcomes result.now ≡ ((plain self.now).client client).answered }
+        ensures { outcomes result.now.items ≡ ((plain self.now).client client).answered }
     {
-        self.clients[usize::from(client.get()) - 1]
-            .outcomes
-            .as_slice()
+        &self.clients[usize::from(client.get()) - 1].outcomes
     }
 
     /// The command of an operator that is carried out next.
@@ -161,13 +157,11 @@ impl State {
     }
 
     /// What an operator's commands were answered, in order.
-    pub fn command_outcomes(&self, operator: OpNo) -> &[CommandOutcome]
+    pub fn command_outcomes(&self, operator: OpNo) -> &CommandOutcomes
         requires { machine.has_operator (plain self.now) operator ≡ true }
-        ensures { result.now ≡ ((plain self.now).operator operator).answered }
+        ensures { result.now.items ≡ ((plain self.now).operator operator).answered }
     {
-        self.operators[usize::from(operator.get()) - 1]
-            .outcomes
-            .as_slice()
+        &self.operators[usize::from(operator.get()) - 1].outcomes
     }
 
     /// The calls that acted on a bucket.

@@ -37,7 +37,7 @@ impl State {
         ensures { result ≡ ((plain self.now).link from to).epoch }
     {
         if self.has_link(from, to) {
-            self.links.epoch(from, to)
+            self.links().epoch(from, to)
         } else {
             0
         }
@@ -49,7 +49,7 @@ impl State {
         ensures { option_map sent (option_copied result) ≡ first_call (plain self.now) from to }
     {
         if self.has_link(from, to) {
-            self.links.head_call(from, to)
+            self.links().head_call(from, to)
         } else {
             None
         }
@@ -61,7 +61,7 @@ impl State {
         ensures { option_copied result ≡ first_reply (plain self.now) from to }
     {
         if self.has_link(from, to) {
-            self.links.head_reply(from, to)
+            self.links().head_reply(from, to)
         } else {
             None
         }

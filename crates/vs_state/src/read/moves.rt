@@ -89,8 +89,7 @@ impl State {
         requires { IsSized self.now }
         ensures { result ≡ first_down (plain self.now) }
     {
-        let count = self.config.sets.len() as u8;
-        for index in 0..count {
+        for index in 0..self.set_count() {
             let set = SetNo::new(index + 1)?;
             if !self.up(set) {
                 return Some(set);

@@ -1,6 +1,6 @@
 //! What a set has of the buckets.
 
-ghost use Rattle.std.specs.Prelude.{◌≡◌, ◌≤◌, ◌↔◌, IsTrue, ℕ, true, [], length, option_map};
+ghost use Rattle.std.specs.Prelude.{◌≡◌, ◌≤◌, ℕ, true, [], length, option_map};
 ghost use Rattle.std.specs.Option.{option_copied, option_map_or};
 ghost use Rattle.vs_record.specs.Change.{change};
 ghost use Rattle.vs_space.specs.Entries.{status_of};
@@ -9,7 +9,7 @@ ghost use Rattle.vs_machine.specs.Kinds.Connections.{receiving_at};
 ghost use Rattle.vs_machine.specs.Kinds.Rebalancing.{hauls_at, view_of};
 ghost use Rattle.vs_state.specs.Agrees.{Agrees, agreed, counts_at, hauls_in};
 ghost use Rattle.vs_state.specs.Plain.{plain, ask};
-ghost use Rattle.vs_state.specs.Serving.{Serves};
+ghost use Rattle.vs_state.specs.Serving.{serves};
 ghost use Rattle.vs_state.specs.Sized.{IsSized, OnlyItsBuckets};
 ghost use Rattle.vs_state.specs.Statuses.{number_at};
 
@@ -121,7 +121,7 @@ impl State {
 
     /// Whether the set is up and grants reads of the bucket.
     pub fn serves(&self, set: SetNo, bucket: BucketId) -> bool
-        ensures { IsTrue result ↔ Serves (plain self.now) set bucket }
+        ensures { result ≡ serves (plain self.now) set bucket }
     {
         // a read is granted whether the bucket is locked against writes or not
         self.up(set) && verdict(self.entry(set, bucket), false, Mode::Ro) == Verdict::Granted

@@ -1,7 +1,8 @@
 use Rattle.std.proofs.Common.{subst}
 use Rattle.vs_state.specs.declared.state.State as tables
 use Rattle.vs_state.specs.Plain.{plain}
-use Rattle.vs_choose.specs.Service.{IsPossible, IsIdleAt}
+use Rattle.vs_machine.specs.Actors.{IsPossible}
+use Rattle.vs_choose.specs.Service.{IsIdleAt}
 use Rattle.vs_choose.proofs.service.event_for.Goals as goal
 
 pub returns-else-is_possible-clause-none : goal.returns-else-is_possible-clause-none

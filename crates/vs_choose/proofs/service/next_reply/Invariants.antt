@@ -1,7 +1,7 @@
 use Rattle.std.proofs.Common.{ℕ, ◌≤◌}
 use Rattle.vs_event.specs.declared.event.Event.TheVariants as event
 use Rattle.vs_core.specs.Core.{means}
-use Rattle.vs_choose.specs.Service.{IsPossible}
+use Rattle.vs_machine.specs.Actors.{IsPossible}
 use Rattle.vs_choose.proofs.service.next_reply.Given as goal
 
 abbrev pub invariant-loop-index : goal.invariant-loop-index

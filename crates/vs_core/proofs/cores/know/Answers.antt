@@ -1,4 +1,5 @@
 use Rattle.std.specs.Prelude.{◌≡◌, ℕ, true}
+use Rattle.std.proofs.Common.{arith}
 use Rattle.vs_send.specs.declared.transfer.By.{By}
 use Rattle.vs_send.specs.declared.transfer.By.TheVariants.{Command, Haul}
 use Rattle.vs_machine.specs.Laws.{IsBegunBy}
@@ -27,4 +28,9 @@ returns c =
       commands = c.given_inputs.ensures.commands s c.requires;
       inputs = inputs;
       within = c.due_answers.ensures.within s c.requires;
+      numbers = λ client.
+          let number = c.given_inputs.ensures.numbered s c.requires client in
+          let answered = (c.due_answers.ensures.within s c.requires).clients client in
+          let calls = (c.given_inputs.ensures.few s c.requires).calls client in
+          grind (arith, number, answered, calls);
     }

@@ -1,7 +1,10 @@
-use Rattle.std.proofs.Common.{◌+◌, ◌<◌, ◌≤◌, length, ◌∙◌, arith}
+use Rattle.std.proofs.Common.{◌+◌, ◌<◌, ◌≤◌, length, ap, ◌∙◌, arith}
+use Rattle.std.specs.Vec.{with_item}
 use Rattle.std.proofs.Math.ListN.{length-set}
-use Rattle.vs_core.proofs.GoingDown.{all_room, more_room, plain_roomed}
+use Rattle.vs_state.specs.declared.state.State.{State}
+use Rattle.vs_core.proofs.GoingDown.{HasRoom, plain_roomed}
 use Rattle.vs_core.proofs.Operators.{IsOperator, sound_operator}
+use Rattle.vs_core.proofs.Roomed.{holds_of_all, holds_of_next}
 use Rattle.vs_core.proofs.going_down.reserve_answers.Goals as goal
 
 pub returns-in_err-reserve_outcome-clause-same : goal.returns-in_err-reserve_outcome-clause-same
@@ -20,9 +23,9 @@ loop-index-preserved c =
     let o : IsOperator s (k + 1) k t = record { at = omega arith; within = within; is = c.index_mut-tables.ensures.value } in
     record {
       count = length-set s.operators.items k u ∙ c.loop-index.invariant.count;
-      room = more_room s.operators.items k u within c.in_ok-reserve_outcome.ensures.room c.loop-index.invariant.room;
+      room = holds_of_next HasRoom s.operators.items k u within c.in_ok-reserve_outcome.ensures.room c.loop-index.invariant.room;
       same = plain_roomed s k t u within c.index_mut-tables.ensures.value c.reserve_outcome.ensures.same ∙ c.loop-index.invariant.same;
-      links = c.loop-index.invariant.links;
+      rest = ap (λ (v : State). record v { operators = with_item s.operators k u }) c.loop-index.invariant.rest;
       sound = sound_operator s (k + 1) k t u o c.loop-index.invariant.sound;
     }
 
@@ -30,4 +33,4 @@ pub returns-clause-room : goal.returns-clause-room
 returns-clause-room c =
     let s = c.loop-index.state in
     let whole : length s.operators.items ≤ c.loop-index.index = omega (arith, c.loop-index.invariant.count) in
-    all_room s.operators.items c.loop-index.index whole c.loop-index.invariant.room
+    holds_of_all HasRoom s.operators.items c.loop-index.index whole c.loop-index.invariant.room

@@ -4,5 +4,5 @@ use Rattle.vs_machine.specs.Report.{history_lines, numbers_to}
 use Rattle.vs_state.specs.Plain.{plain}
 use Rattle.vs_report.proofs.histories.put_histories.Given as goal
 
-abbrev pub invariant-loop-i : goal.invariant-loop-i
-invariant-loop-i l = l.out.items ≡ l.initial.out.items ++ flat_map (λ b. history_lines b ((plain l.state).bucket b).history) (numbers_to l.i)
+abbrev pub invariant-loop-index : goal.invariant-loop-index
+invariant-loop-index l = l.out.items ≡ l.initial.out.items ++ flat_map (λ b. history_lines b ((plain l.state).bucket b).history) (numbers_to l.index)

@@ -1,12 +1,13 @@
 use Rattle.std.proofs.Common.{refl}
 use Rattle.vs_settle.proofs.Following.{follows_same, follows_one}
+use Rattle.vs_settle.proofs.Possible.{next_of}
 use Rattle.vs_settle.proofs.carrying.carry_out.Goals as goal
 
 pub unreachable-requires : goal.unreachable-requires
 unreachable-requires g c =
     let reason = c.in-Err-NotNow.field-0-0 in
     let refused = (c.step.ensures.refused reason).0 (cc (c.in-Err-NotNow.is, c.in-Err-NotNow.field-0-is)) in
-    absurd (cc (c.requires.possible.1, refused))
+    absurd (cc ((next_of _ c.requires.possible).1, refused))
 
 pub returns-in-Ok-clause-follows : goal.returns-in-Ok-clause-follows
 returns-in-Ok-clause-follows g c =

@@ -1,8 +1,10 @@
 use Rattle.std.proofs.Common.{◌+◌, ◌≤◌, arith}
+use Rattle.vs_event.specs.declared.event.Event.TheVariants.{Wipe, Forget}
 use Rattle.vs_world.specs.Played.{state_of}
 use Rattle.vs_settle.specs.Weight.{weight}
 use Rattle.vs_settle.proofs.Collecting.{wipes, forgets, forgotten, forgotten_lighter}
 use Rattle.vs_settle.proofs.Following.{follows_then}
+use Rattle.vs_settle.proofs.Possible.{possible}
 use Rattle.vs_settle.proofs.Results.{on_ok_both}
 use Rattle.vs_settle.proofs.Settling.{wiping_starts, wiping_wipes, wiping_goes_on, wiping_ends}
 use Rattle.vs_settle.proofs.entries.collect.Goals as goal
@@ -12,7 +14,8 @@ loop-world-init g c = wiping_starts c.args.world.now c.args.steps.now c.args.set
 
 pub carry_out-requires-clause-possible : goal.carry_out-requires-clause-possible
 carry_out-requires-clause-possible g c =
-    (_, wipes (state_of c.loop-world.world) c.args.set c.args.bucket c.loop-world.invariant.can (omega (arith, c.row_count.ensures, c.loop-world-test.true)))
+    possible (state_of c.loop-world.world) _ (Wipe c.args.set c.args.bucket)
+    (wipes (state_of c.loop-world.world) c.args.set c.args.bucket c.loop-world.invariant.can (omega (arith, c.row_count.ensures, c.loop-world-test.true)))
 
 pub loop-world-smaller : goal.loop-world-smaller
 loop-world-smaller g c =
@@ -29,7 +32,8 @@ returns-in_err-carry_out-clause-follows g c =
 
 pub carry_out-requires-2-clause-possible : goal.carry_out-requires-2-clause-possible
 carry_out-requires-2-clause-possible g c =
-    (_, forgets (state_of c.loop-world.world) c.args.set c.args.bucket c.loop-world.invariant.can (omega (arith, c.row_count.ensures, c.loop-world-test.false)))
+    possible (state_of c.loop-world.world) _ (Forget c.args.set c.args.bucket)
+    (forgets (state_of c.loop-world.world) c.args.set c.args.bucket c.loop-world.invariant.can (omega (arith, c.row_count.ensures, c.loop-world-test.false)))
 
 pub returns-clause-follows : goal.returns-clause-follows
 returns-clause-follows g c =

@@ -1,8 +1,10 @@
 use Rattle.std.proofs.Common.{◌+◌, ◌≤◌, arith}
+use Rattle.vs_event.specs.declared.event.Event.TheVariants.{Condemn}
 use Rattle.vs_world.specs.Played.{state_of}
 use Rattle.vs_settle.specs.Weight.{weight}
 use Rattle.vs_settle.proofs.Collecting.{condemns}
 use Rattle.vs_settle.proofs.Following.{follows_then}
+use Rattle.vs_settle.proofs.Possible.{possible}
 use Rattle.vs_settle.proofs.Ranks.{sent_is}
 use Rattle.vs_settle.proofs.Results.{on_ok}
 use Rattle.vs_settle.proofs.Settling.{condemning_settles, condemning_collects, done_then}
@@ -12,7 +14,7 @@ pub carry_out-requires-clause-possible : goal.carry_out-requires-clause-possible
 carry_out-requires-clause-possible g c =
     let s = state_of c.args.world.now in
     let at = sent_is ((s.bucket c.args.bucket).entry c.args.set) c.requires.sent in
-    (_, condemns s c.args.set c.args.bucket at.0 c.requires.next at.1)
+    possible s _ (Condemn c.args.set c.args.bucket) (condemns s c.args.set c.args.bucket at.0 c.requires.next at.1)
 
 pub collect-requires : goal.collect-requires
 collect-requires g c =

@@ -1,18 +1,21 @@
 use Rattle.std.proofs.Common.{◌≤◌, arith}
+use Rattle.vs_event.specs.declared.event.Event.TheVariants.{Ask, Deliver, Hear}
 use Rattle.vs_world.specs.Played.{state_of}
 use Rattle.vs_settle.specs.Weight.{weight}
 use Rattle.vs_settle.proofs.Following.{follows_then}
+use Rattle.vs_settle.proofs.Possible.{possible}
 use Rattle.vs_settle.proofs.Recovering.{asks}
 use Rattle.vs_settle.proofs.Results.{on_ok_both}
 use Rattle.vs_settle.proofs.Settling.{delivers_next, hears_next, recovers, asking_costs, done_by}
 use Rattle.vs_settle.proofs.entries.recover.Goals as goal
 
 pub carry_out-requires-clause-possible : goal.carry_out-requires-clause-possible
-carry_out-requires-clause-possible g c = (_, asks (state_of c.args.world.now) c.args.set c.args.bucket c.args.other c.requires)
+carry_out-requires-clause-possible g c = possible (state_of c.args.world.now) _ (Ask c.args.set c.args.bucket) (asks (state_of c.args.world.now) c.args.set c.args.bucket c.args.other c.requires)
 
 pub carry_out-requires-2-clause-possible : goal.carry_out-requires-2-clause-possible
 carry_out-requires-2-clause-possible g c =
-    (_, delivers_next (state_of c.args.world.now) c.args.set c.args.bucket c.args.other c.requires (state_of c.carry_out.new.world) c.in_ok-carry_out.ensures.step)
+    possible (state_of c.carry_out.new.world) _ (Deliver c.args.set c.args.other)
+    (delivers_next (state_of c.args.world.now) c.args.set c.args.bucket c.args.other c.requires (state_of c.carry_out.new.world) c.in_ok-carry_out.ensures.step)
 
 pub returns-in_err-carry_out-2-clause-follows : goal.returns-in_err-carry_out-2-clause-follows
 returns-in_err-carry_out-2-clause-follows g c =
@@ -25,7 +28,8 @@ returns-in_err-carry_out-2-clause-spent g c =
 
 pub carry_out-requires-3-clause-possible : goal.carry_out-requires-3-clause-possible
 carry_out-requires-3-clause-possible g c =
-    (_, hears_next (state_of c.args.world.now) c.args.set c.args.bucket c.args.other c.requires (state_of c.carry_out.new.world) (state_of c.carry_out-2.new.world) c.in_ok-carry_out.ensures.step c.in_ok-carry_out-2.ensures.step)
+    possible (state_of c.carry_out-2.new.world) _ (Hear c.args.set c.args.other)
+    (hears_next (state_of c.args.world.now) c.args.set c.args.bucket c.args.other c.requires (state_of c.carry_out.new.world) (state_of c.carry_out-2.new.world) c.in_ok-carry_out.ensures.step c.in_ok-carry_out-2.ensures.step)
 
 pub returns-clause-follows : goal.returns-clause-follows
 returns-clause-follows g c =

@@ -1,7 +1,7 @@
 use Rattle.std.proofs.Common.{◌≡◌, ◌+◌, ◌≤◌, sym, subst, arith}
 use Rattle.vs_machine.specs.State.{sets_of}
 use Rattle.vs_world.specs.Played.{state_of}
-use Rattle.vs_settle.specs.Tasks.{IsDone, IsNext, level}
+use Rattle.vs_settle.specs.Tasks.{IsDone, IsNextEntry, level}
 use Rattle.vs_settle.proofs.Following.{follows_then}
 use Rattle.vs_settle.proofs.Sweeping.{sweeping_starts, sweeping_next, sweeping_goes_on, sweeping_ends, level_some}
 use Rattle.vs_settle.proofs.entries.settle_sets.Goals as goal
@@ -13,7 +13,7 @@ pub settle_entry-requires : goal.settle_entry-requires
 settle_entry-requires g c =
     let same : c.in-Some.set ≡ c.loop-index.index + 1 = omega (arith, c.in-Some.ensures) in
     let lt : c.loop-index.index + 1 ≤ sets_of (state_of c.args.world.now) = omega (arith, c.set_count-count.ensures.count, c.loop-index-test.true) in
-    subst (λ x. IsNext (state_of c.loop-index.world) x c.args.bucket (level c.args.task)) (sym same)
+    subst (λ x. IsNextEntry (state_of c.loop-index.world) x c.args.bucket (level c.args.task)) (sym same)
     (sweeping_next c.args.world.now c.loop-index.world c.args.steps.now c.loop-index.steps c.args.bucket (level c.args.task) c.loop-index.index c.loop-index.invariant c.requires.bucket lt)
 
 pub returns-in_err-settle_entry-clause-follows : goal.returns-in_err-settle_entry-clause-follows

@@ -7,7 +7,7 @@ use Rattle.vs_survey.proofs.settling.are_at_rest.Goals as goal
 pub returns-then-not-is_at_rest : goal.returns-then-not-is_at_rest
 returns-then-not-is_at_rest c = (
   λ e. absurd (cc e),
-  λ all. absurd (cc (c.is_at_rest.ensures.1 (all c.in-Some.set (omega (arith, c.in-Some.ensures)) (omega (arith, c.in-Some.ensures, c.set_count-index-end.ensures, c.loop-index-test.true))), c.if-not-is_at_rest.true)),
+  λ all. absurd (cc (c.is_at_rest.ensures.1 (all c.in-Some.set (omega (arith, c.in-Some.ensures)) (omega (arith, c.in-Some.ensures, c.set_count-index-end.ensures.count, c.loop-index-test.true))), c.if-not-is_at_rest.true)),
 )
 
 pub loop-index-preserved : goal.loop-index-preserved
@@ -16,6 +16,6 @@ loop-index-preserved c =
 
 pub returns : goal.returns
 returns c = (
-  λ e x from to. c.loop-index.invariant x from (omega (arith, to, c.set_count-index-end.ensures, c.loop-index-test.false)),
+  λ e x from to. c.loop-index.invariant x from (omega (arith, to, c.set_count-index-end.ensures.count, c.loop-index-test.false)),
   λ all. refl,
 )

@@ -16,6 +16,6 @@ loop-index-preserved c =
 
 pub returns : goal.returns
 returns c = (
-  λ e. transfers_everywhere c.args.state.now c.requires.sized.sets (λ x from to. c.loop-index.invariant x from (omega (arith, to, c.set_count-index-end.ensures, c.loop-index-test.false))),
+  λ e. transfers_everywhere c.args.state.now c.requires.sized.sets (λ x from to. c.loop-index.invariant x from (omega (arith, to, c.set_count-index-end.ensures.count, c.loop-index-test.false))),
   λ all. refl,
 )

@@ -20,5 +20,5 @@ returns-then-are_idle c = (
     ]
     | else-have_no_transfer moved ↦ absurd (cc (moved.value-is, c.if-are_idle.true))
   ],
-  λ settled. c.are_silent.ensures.1 (record { calls = settled.no_message; replies = settled.no_reply }),
+  λ settled. c.are_silent.ensures.1 (λ x y ne. record { calls = settled.no_message x y ne; replies = settled.no_reply x y ne }),
 )

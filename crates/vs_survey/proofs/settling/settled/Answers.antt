@@ -1,15 +1,10 @@
-use Rattle.std.proofs.Common.{◌≡◌, ◌≤◌, ℕ, true, sym, subst}
+use Rattle.std.proofs.Common.{◌≡◌, ℕ, true, sym, subst}
 use Rattle.std.specs.Prelude.{◌↔◌}
 use Rattle.vs_machine.specs.Settling.{IsSettled}
-use Rattle.vs_machine.specs.State.{sets_of}
 use Rattle.vs_machine.specs.Whole.{Whole}
 use Rattle.vs_state.specs.declared.state.State.{State}
 use Rattle.vs_state.specs.Plain.{plain}
 use Rattle.vs_survey.proofs.settling.settled.Goals as goal
-
-pub is_settled-requires-clause-few : goal.is_settled-requires-clause-few
-is_settled-requires-clause-few c =
-    subst (λ (s : State). sets_of (plain s) ≤ 32) (sym c.state.ensures.value) (c.given_inputs.ensures.inputs (plain c.args.core.now.state) c.state.ensures.reached).lawful.sets.1
 
 pub is_settled-requires-clause-whole : goal.is_settled-requires-clause-whole
 is_settled-requires-clause-whole c =

@@ -1,27 +1,33 @@
-use Rattle.std.proofs.Common.{◌≡◌, Ok, Some, None, sym, ap, subst, ◌∙◌}
-use Rattle.vs_event.specs.declared.event.Event.{Event}
+use Rattle.std.proofs.Common.{◌≡◌, Ok, sym, subst}
 use Rattle.vs_machine.specs.Step.{step}
+use Rattle.vs_state.specs.Guard.{verdict}
 use Rattle.vs_state.specs.Plain.{plain}
 use Rattle.vs_core.specs.Core.{Shown, means}
-use Rattle.vs_core.specs.Safety.{IsSafe, IsSafeEvent}
-use Rattle.vs_core.specs.Standing.{event_of}
+use Rattle.vs_core.specs.Safety.{IsSafeEvent}
+use Rattle.vs_core.specs.Standing.{IsReady}
 use Rattle.vs_core.proofs.cores.Core.apply.Goals as goal
 
-pub returns-in-Some-clause-step : goal.returns-in-Some-clause-step
-returns-in-Some-clause-step c =
-    let shown : event_of c.self.inside.ready ≡ Some c.args.event.now = ap (λ (v : Shown). v.ready_for) c.self.view_is ∙ c.requires in
-    let taken : event_of c.self.inside.ready ≡ Some c.in-Some.ready.event = ap event_of (sym c.in-Some.ensures.value) in
-    let is : c.in-Some.ready.event ≡ c.args.event.now = cc (taken, shown) in
-    let steps = subst (λ (e : Event). step (plain c.self.inside.state) e ≡ Ok (plain c.carry_out.new.state)) is c.carry_out.ensures.step in
-    subst (λ (v : Shown). step (means v) c.args.event.now ≡ Ok (plain c.carry_out.new.state)) c.self.view_is steps
+pub prepared_for-prepared-requires-clause-possible : goal.prepared_for-prepared-requires-clause-possible
+prepared_for-prepared-requires-clause-possible c = subst (λ (v : Shown). verdict (step (means v) c.args.event.now) ≡ Ok tt) (sym c.self.view_is) c.requires.possible
 
-pub returns-in-Some-clause-event : goal.returns-in-Some-clause-event
-returns-in-Some-clause-event c =
-    let steps = subst (λ (v : Shown). step (means v) c.args.event.now ≡ Ok (plain c.carry_out.new.state)) (sym c.self.view_is) (returns-in-Some-clause-step c) in
+pub carry_out-requires-clause-possible : goal.carry_out-requires-clause-possible
+carry_out-requires-clause-possible c = subst (λ (v : Shown). verdict (step (means v) c.args.event.now) ≡ Ok tt) (sym c.self.view_is) c.requires.possible
+
+pub invariant_of-self : goal.invariant_of-self
+invariant_of-self c = record {
+  reached = c.every_event.ensures.reaches (plain c.self.inside.state) (plain c.carry_out.new.state) c.args.event.now c.self.invariant.reached c.carry_out.ensures.step;
+  sound = c.carry_out.ensures.sound;
+  ready = subst (IsReady c.carry_out.new.state) (sym c.take-ready.ensures.after) tt;
+}
+
+pub returns-clause-step : goal.returns-clause-step
+returns-clause-step c = subst (λ (v : Shown). step (means v) c.args.event.now ≡ Ok (plain c.carry_out.new.state)) c.self.view_is c.carry_out.ensures.step
+
+pub returns-clause-event : goal.returns-clause-event
+returns-clause-event c =
     subst (λ (v : Shown). IsSafeEvent (means v) c.args.event.now (plain c.carry_out.new.state)) c.self.view_is
-    (c.safe_runs.ensures.events (plain c.self.inside.state) (plain c.carry_out.new.state) c.args.event.now c.self.invariant.reached steps)
+    (c.safe_runs.ensures.events (plain c.self.inside.state) (plain c.carry_out.new.state) c.args.event.now c.self.invariant.reached c.carry_out.ensures.step)
 
-pub returns-in-Some-clause-safe : goal.returns-in-Some-clause-safe
-returns-in-Some-clause-safe c =
-    let steps = subst (λ (v : Shown). step (means v) c.args.event.now ≡ Ok (plain c.carry_out.new.state)) (sym c.self.view_is) (returns-in-Some-clause-step c) in
-    c.safe_runs.ensures.states (plain c.carry_out.new.state) (c.every_event.ensures.reaches (plain c.self.inside.state) (plain c.carry_out.new.state) c.args.event.now c.self.invariant.reached steps)
+pub returns-clause-safe : goal.returns-clause-safe
+returns-clause-safe c =
+    c.safe_runs.ensures.states (plain c.carry_out.new.state) (c.every_event.ensures.reaches (plain c.self.inside.state) (plain c.carry_out.new.state) c.args.event.now c.self.invariant.reached c.carry_out.ensures.step)

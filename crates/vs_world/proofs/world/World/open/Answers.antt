@@ -1,7 +1,5 @@
-use Rattle.std.proofs.Common.{◌≡◌, Ok, [], sym, ap, ◌∙◌}
+use Rattle.std.proofs.Common.{Ok, sym, ap, ◌∙◌}
 use Rattle.vs_config.specs.Configuration.{configuration}
-use Rattle.vs_core.specs.Booted.{booted}
-use Rattle.vs_machine.specs.Opening.{opening}
 use Rattle.vs_machine.specs.Step.{run}
 use Rattle.vs_script.specs.Scripts.{scripts}
 use Rattle.vs_state.specs.Plain.{plain}
@@ -20,6 +18,6 @@ invariant_of-result c = record {
   config = configuration c.args.config;
   scripts = scripts c.args.scripts;
   opens = c.in_ok-core.ensures.coherent;
-  starts = returns-clause-start c;
-  runs = ap (λ events. run (start_of (plain c.in_ok-core.core.state)) events) c.new.ensures ∙ ap Ok (sym (returns-clause-state c));
+  starts = ap start_of c.in_ok-core.ensures.opening;
+  runs = ap (λ events. run (start_of (plain c.in_ok-core.core.state)) events) c.new.ensures ∙ ap Ok (ap start_of c.in_ok-core.ensures.opening ∙ sym c.in_ok-core.ensures.opening);
 }
