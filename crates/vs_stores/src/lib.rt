@@ -1,0 +1,10 @@
+//! The journals of all sets of a cluster.
+#![tactic(auto)]
+
+mod fault;
+mod ready;
+mod restart;
+mod stores;
+
+pub use fault::{AppendFault, OpenFault};
+pub use stores::Stores;
