@@ -1,0 +1,14 @@
+pub mod Bound
+pub mod Checks
+pub mod Cutting
+pub mod Filling
+pub mod Forces
+pub mod FromRoutes
+pub mod LoadTables
+pub mod OneMore
+pub mod OneWave
+pub mod Parts
+pub mod Plans
+pub mod Searching
+pub mod Sums
+pub mod WaveMoves

@@ -1,0 +1,4 @@
+pub mod Flows
+pub mod Forcing
+pub mod Loads
+pub mod Plan
