@@ -1,0 +1,13 @@
+pub mod Added
+pub mod Rises
+pub mod Ruled
+pub mod SamePairs
+pub mod Whole
+pub mod SameCalls
+pub mod SameAnswers
+pub mod Answered
+pub mod AtPlaces
+pub mod Counted
+pub mod Doubled
+pub mod InOrder
+pub mod Indexed

@@ -1,0 +1,10 @@
+pub mod Account
+pub mod ByPlace
+pub mod Doubles
+pub mod Legal
+pub mod Order
+pub mod Passes
+pub mod Rules
+pub mod Tally
+pub mod Turn
+pub use Rattle.vs_base.specs.Listed
