@@ -1,19 +1,25 @@
 ghost use Rattle.std.specs.Prelude.{◌≡◌, length, IfOk};
+ghost use Rattle.vs_config.specs.Configuration.{configuration};
+ghost use Rattle.vs_machine.specs.Opening.{IsLawful};
+ghost use Rattle.vs_script.specs.Scripts as script;
 
 use std::alloc::Global;
 use uuid::Uuid;
 use vs_base::NoMemory;
 use vs_config::{Config, SetConfig, SetList};
+use vs_core::{Core, CoreFault, new_states};
+use vs_script::Scripts;
 
-fn set_config() -> SetConfig {
+fn set_config(number: u8, weight: u32) -> SetConfig {
     SetConfig {
-        uuid: Uuid::nil(),
-        weight: 1,
+        uuid: Uuid::from_u128(0x4000_8000_0000_0000_0000 + u128::from(number)),
+        weight,
         lock: false,
     }
 }
 
-/// A configuration of four buckets and two sets. Fails where memory is wanted.
+/// A configuration of four buckets and two sets, the first of which begins with buckets 1 to 3, the second with bucket 4. Fails
+/// where memory is wanted.
 pub fn config(alloc: Global) -> Result<Config, NoMemory>
     ensures buckets { IfOk result (λ c. c.bucket_count ≡ 4) }
     ensures sets { IfOk result (λ c. length c.sets.items ≡ 2) }
@@ -23,8 +29,8 @@ pub fn config(alloc: Global) -> Result<Config, NoMemory>
 {
     let mut sets = SetList::new(alloc);
     sets.reserve_many(2)?;
-    sets.push(set_config());
-    sets.push(set_config());
+    sets.push(set_config(1, 3));
+    sets.push(set_config(2, 1));
     Ok(Config {
         bucket_count: 4,
         threshold: 1,
@@ -32,4 +38,16 @@ pub fn config(alloc: Global) -> Result<Config, NoMemory>
         max_sending: 1,
         sets,
     })
+}
+
+/// A new cluster. Fails where memory is wanted.
+pub fn new_core(alloc: Global, config: &Config, scripts: Scripts) -> Result<Core, NoMemory>
+    requires { IsLawful (configuration config.now) (script.scripts scripts) }
+{
+    let states = new_states(alloc, config)?;
+    match Core::new(config, scripts, states) {
+        Ok(core) => Ok(core),
+        Err(CoreFault::NoMemory) => Err(NoMemory),
+        Err(CoreFault::Incoherent { .. }) => unreachable!(),
+    }
 }

@@ -1,7 +1,7 @@
 //! A module for each crate that is tested.
 
-mod boot;
 mod choose;
 mod report;
 mod settle;
 mod survey;
+mod top;

@@ -5,4 +5,4 @@ mod journals;
 #[cfg(test)]
 mod tests;
 
-pub use journals::{JOURNAL, NEVER, head};
+pub use journals::{FIRST, JOURNAL, NEVER, head};

@@ -1,7 +1,7 @@
 //! A module for each crate that is tested.
 
+mod audit;
 mod balance;
-mod calls;
 mod collect;
 mod history;
 mod link;
@@ -13,3 +13,4 @@ mod rows;
 mod send;
 mod space;
 mod table;
+mod waves;

@@ -1,8 +1,5 @@
 //! Tests of what is read from texts and written as text, and of the hosts that hold them.
 #![tactic(auto)]
 
-mod hosts;
 #[cfg(test)]
 mod tests;
-
-pub use hosts::LongFiles;

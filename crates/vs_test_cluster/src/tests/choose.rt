@@ -1,9 +1,15 @@
 //! What the services of two sets do while a bucket is moved.
 
+ghost use Rattle.std.specs.Prelude.{◌≡◌, Ok};
+ghost use Rattle.vs_machine.specs.Step.{step};
+ghost use Rattle.vs_state.specs.Guard.{verdict};
+ghost use Rattle.vs_core.specs.Core.{means};
+
+use crate::new_core;
 use std::alloc::Global;
 use std::process::Abort;
 use std::test::Fail;
-use vs_base::SetNo;
+use vs_base::{NoMemory, SetNo};
 use vs_choose::next_service;
 use vs_config::read_config;
 use vs_core::Core;
@@ -23,15 +29,24 @@ fn boot(alloc: Global) -> Result<Core, Fail> {
     given.push(moves)?;
     given.push(stops)?;
     let scripts = gather(alloc, given)?;
-    Ok(Core::boot(alloc, config, scripts)?)
+    Ok(new_core(alloc, &config, scripts)?)
 }
 
 /// Carries out an event that can happen.
-fn step<R: Abort>(rt: &R, core: &mut Core, event: &Event) -> Result<(), Fail> {
-    assert!(rt; core.can(event).is_ok(), "{event:?} can happen");
+fn carry_out(core: &mut Core, event: &Event) -> Result<(), NoMemory>
+    requires { verdict (step (means core.old) event.now) ≡ Ok tt }
+{
     core.reserve_for(event)?;
     core.apply(event);
     Ok(())
+}
+
+/// The same, of an event of which that isn't known.
+fn step<R: Abort>(rt: &R, core: &mut Core, event: &Event) -> Result<(), Fail> {
+    let Ok(()) = core.can(event) else {
+        panic!(rt; "the event can't happen");
+    };
+    Ok(carry_out(core, event)?)
 }
 
 /// The service of the set does one thing, where it can, which is added to the list.
@@ -65,15 +80,21 @@ fn serve<R: Abort>(rt: &R, core: &mut Core, done: &mut Trace) -> Result<(), Fail
     Ok(())
 }
 
+/// Each event happens, and after it the services do what they can.
+fn play<R: Abort>(rt: &R, core: &mut Core, events: &Trace, done: &mut Trace) -> Result<(), Fail> {
+    for event in events.as_slice() {
+        step(rt, core, event)?;
+        serve(rt, core, done)?;
+    }
+    Ok(())
+}
+
 /// Each event of the text happens, and after it the services do what they can. This is the text of what they did.
 fn served<R: Abort>(rt: &R, alloc: Global, events: &[u8]) -> Result<Vec<u8>, Fail> {
-    let mut core = boot(alloc)?;
-    let mut done = Trace::new(alloc);
     let events = read_events(alloc, events)?;
-    for event in events.as_slice() {
-        step(rt, &mut core, event)?;
-        serve(rt, &mut core, &mut done)?;
-    }
+    let mut done = Trace::new(alloc);
+    let mut core = boot(alloc)?;
+    play(rt, &mut core, &events, &mut done)?;
     Ok(write_events(alloc, &done)?)
 }
 

@@ -14,6 +14,7 @@ use vs_event::Event;
 use vs_script::{ClientCalls, Command, Commands, OperatorCommands, Scripts};
 use vs_settle::{Steps, can_settle, settle};
 use vs_space::Status;
+use vs_survey::settled;
 use vs_world::World;
 
 fn commands(alloc: Global, command: Command) -> Result<Commands, NoMemory>
@@ -25,18 +26,18 @@ fn commands(alloc: Global, command: Command) -> Result<Commands, NoMemory>
     Ok(commands)
 }
 
-/// An operator sends bucket 1 from set 1 to set 2, and another closes the connection.
+/// An operator sends bucket 3 from set 1 to set 2, and another closes the connection.
 fn scripts<R: Abort>(rt: &R, alloc: Global) -> Result<Scripts, NoMemory>
     ensures clients { IfOk result (λ s. s.clients.items ≡ []) }
     ensures operators { IfOk result (λ s. map (λ c. c.items) s.operators.items
-        ≡ (command.Send 1 1 2 ∷ []) ∷ (command.Close 1 2 ∷ []) ∷ []) }
+        ≡ (command.Send 3 1 2 ∷ []) ∷ (command.Close 1 2 ∷ []) ∷ []) }
 {
     let one = SetNo::new(1).expect(rt, "1 is a set");
     let two = SetNo::new(2).expect(rt, "2 is a set");
-    let first = BucketId::new(1).expect(rt, "1 is a bucket");
+    let three = BucketId::new(3).expect(rt, "3 is a bucket");
     let mut operators = OperatorCommands::new(alloc);
     operators.reserve_many(2)?;
-    operators.push(commands(alloc, Command::Send(first, one, two))?);
+    operators.push(commands(alloc, Command::Send(three, one, two))?);
     operators.push(commands(alloc, Command::Close(one, two))?);
     Ok(Scripts {
         clients: ClientCalls::new(alloc),
@@ -54,56 +55,66 @@ fn play(world: &mut World, events: &[Event]) -> bool {
     true
 }
 
-/// Settles a cluster, and counts the events in a new ledger.
+/// Settles a cluster, counts its ticks in a new ledger, and reads them: each is an event more on the list.
 fn settle_counted<R: Abort, L: Ledger>(
     rt: &R,
     world: &mut World,
     blank: Blank,
-) -> Result<(), NoMemory>
+) -> Result<u64, NoMemory>
     requires name { blank.name ≡ L.name }
     requires parts { blank.parts ≡ L.parts }
     requires some { blank.parts ≡ 1 }
 {
     assert!(rt; can_settle(world), "all is answered, and both sets are up");
+    let before = world.trace().len();
     let mut steps = Steps::<L>::new(blank);
-    settle(world, &mut steps)
+    settle(world, &mut steps)?;
+    Ok(world.trace().len() - before)
 }
 
-/// A cluster in which a transfer of bucket 1 was given up half way.
+/// A cluster in which a transfer of bucket 3 was given up half way.
 fn interrupted<R: Abort>(rt: &R, alloc: Global) -> Result<World, Fail> {
     let one = SetNo::new(1).expect(rt, "1 is a set");
     let two = SetNo::new(2).expect(rt, "2 is a set");
-    let first = BucketId::new(1).expect(rt, "1 is a bucket");
+    let three = BucketId::new(3).expect(rt, "3 is a bucket");
     let sender = OpNo::new(1).expect(rt, "1 is an operator");
     let closer = OpNo::new(2).expect(rt, "2 is an operator");
     let mut world = World::open(alloc, config(alloc)?, scripts(rt, alloc)?)?;
     let events = [
         Event::Start(sender),
-        Event::Freeze(one, first),
-        Event::Chunk(one, first),
+        Event::Freeze(one, three),
+        Event::Chunk(one, three),
         Event::Deliver(one, two),
         Event::Close(closer),
-        Event::Abort(one, first),
+        Event::Abort(one, three),
     ];
     assert!(rt; play(&mut world, &events), "each event can happen");
     Ok(world)
 }
 
-/// What the first two sets have of bucket 1.
+/// What the two sets have of bucket 3.
 fn entries<R: Abort>(rt: &R, world: &World) -> [Option<Status>; 2] {
     let one = SetNo::new(1).expect(rt, "1 is a set");
     let two = SetNo::new(2).expect(rt, "2 is a set");
-    let first = BucketId::new(1).expect(rt, "1 is a bucket");
+    let three = BucketId::new(3).expect(rt, "3 is a bucket");
     let state = world.core().state();
-    [state.entry(one, first), state.entry(two, first)]
+    [state.entry(one, three), state.entry(two, three)]
 }
+
+/// What settling may take here: an event for each set and five for each of the two entries that are neither active nor pinned,
+/// since no message is under way and there are no rows.
+const BOUND: u64 = 2 + 5 * 2;
 
 #[test]
 fn settles_a_bucket_on_its_way(rt: HostRuntime) -> Result<(), Fail> {
+    let one = SetNo::new(1).expect(&rt, "1 is a set");
+    let two = SetNo::new(2).expect(&rt, "2 is a set");
     let mut world = interrupted(&rt, rt.alloc())?;
-    settle_counted::<HostRuntime, Brand>(&rt, &mut world, Blank::new(1))?;
+    assert!(rt; entries(&rt, &world) == [Some(Status::Sending(two)), Some(Status::Receiving(one))]);
+    let ticks = settle_counted::<HostRuntime, Brand>(&rt, &mut world, Blank::new(1))?;
     // set 2 asks and throws the bucket away, set 1 asks and has it again, and set 2 forgets it
-    assert_eq!(rt; world.trace().len(), 6 + 7);
-    assert_eq!(rt; entries(&rt, &world), [Some(Status::Active), None]);
+    assert!(rt; 0 < ticks && ticks <= BOUND, "{ticks} ticks");
+    assert!(rt; entries(&rt, &world) == [Some(Status::Active), None]);
+    assert!(rt; settled(world.core()), "settled");
     Ok(())
 }

@@ -2,7 +2,7 @@
 
 ghost use Rattle.std.specs.Prelude.{◌≡◌, [], length, IfOk};
 
-use crate::config;
+use crate::{config, new_core};
 use std::alloc::Global;
 use std::test::Fail;
 use vs_base::{BucketId, NoMemory, SetNo};
@@ -21,7 +21,7 @@ fn no_scripts(alloc: Global) -> Scripts
 }
 
 fn boot(alloc: Global) -> Result<Core, NoMemory> {
-    Core::boot(alloc, config(alloc)?, no_scripts(alloc))
+    new_core(alloc, &config(alloc)?, no_scripts(alloc))
 }
 
 #[test]
@@ -34,7 +34,7 @@ fn reads_a_new_cluster(rt: HostRuntime) -> Result<(), Fail> {
     assert!(rt; settled(&core), "nothing is under way");
     assert!(rt; serves(&core, one, first), "set 1 has bucket 1");
     assert!(rt; !serves(&core, two, first), "set 2 hasn't");
-    assert_eq!(rt; page(&core, one, None)?.len(), 2);
-    assert_eq!(rt; page(&core, one, Some(first))?.len(), 1);
+    assert_eq!(rt; page(&core, one, None)?.len(), 3);
+    assert_eq!(rt; page(&core, one, Some(first))?.len(), 2);
     Ok(())
 }

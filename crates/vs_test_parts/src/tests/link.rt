@@ -20,9 +20,7 @@ fn messages(rt: HostRuntime) -> Result<(), Fail> {
     links.reserve(one, two)?;
     assert_eq!(rt; links.post(one, two, Msg::Last(bucket)), 1);
     let copy = links.try_clone()?;
-    let Ok(posted) = links.take_call(one, two) else {
-        return Err(Fail::new("no call"));
-    };
+    let posted = links.take_call(one, two).expect(&rt, "a call");
     assert_eq!(rt; posted.sync, 0);
     links.answer(
         one,

@@ -6,9 +6,7 @@ use vs_space::Status;
 
 #[test]
 fn keeps_one_ask_a_bucket(rt: HostRuntime) {
-    let Some(id) = BucketId::new(3) else {
-        return;
-    };
+    let id = BucketId::new(3).expect(&rt, "3 is a bucket");
     let mut asks = Asks::new(rt.alloc());
     assert_eq!(rt; asks.reserve(), Ok(()));
     asks.put(id, 4, 9);
@@ -22,9 +20,7 @@ fn keeps_one_ask_a_bucket(rt: HostRuntime) {
 #[test]
 fn decides_by_the_table(rt: HostRuntime) {
     use Decision::{Stay, ToActive, ToGarbage};
-    let Some(peer) = SetNo::new(2) else {
-        return;
-    };
+    let peer = SetNo::new(2).expect(&rt, "2 is a set");
     let remotes = [
         None,
         Some(Status::Active),
@@ -52,8 +48,14 @@ fn decides_by_the_table(rt: HostRuntime) {
     let idle = [stay, stay, sending, receiving, stay, stay];
     for (i, local) in locals.iter().enumerate() {
         for (j, remote) in remotes.iter().enumerate() {
-            assert_eq!(rt; decide(*local, *remote, true), live[i][j]);
-            assert_eq!(rt; decide(*local, *remote, false), idle[i][j]);
+            assert!(rt;
+                decide(*local, *remote, true) == live[i][j],
+                "live, at {i}, {j}"
+            );
+            assert!(rt;
+                decide(*local, *remote, false) == idle[i][j],
+                "idle, at {i}, {j}"
+            );
         }
     }
 }

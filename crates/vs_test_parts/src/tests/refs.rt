@@ -5,9 +5,7 @@ use vs_refs::{Counts, Locked, Refs};
 
 #[test]
 fn counts_references_and_refuses_under_a_lock(rt: HostRuntime) {
-    let Some(id) = BucketId::new(3) else {
-        return;
-    };
+    let id = BucketId::new(3).expect(&rt, "3 is a bucket");
     let mut refs = Refs::new(rt.alloc());
     assert_eq!(rt; refs.reserve(), Ok(()));
     assert_eq!(rt; refs.take(id, Mode::Rw), Ok(()));
@@ -18,15 +16,15 @@ fn counts_references_and_refuses_under_a_lock(rt: HostRuntime) {
         rw_lock: true,
         ..Counts::default()
     };
-    assert_eq!(rt; refs.counts(id), held);
+    assert!(rt; refs.counts(id) == held);
     assert!(rt; refs.counts(id).count(Mode::Rw) == 1);
     assert_eq!(rt; refs.reserve(), Ok(()));
     assert_eq!(rt; refs.take(id, Mode::Rw), Err(Locked));
     assert!(rt; refs.counts(id).count(Mode::Rw) == 1);
     refs.give(id, Mode::Rw);
     refs.unlock(id, Mode::Rw);
-    assert_eq!(rt; refs.counts(id), Counts::default());
+    assert!(rt; refs.counts(id) == Counts::default());
     refs.drop_bucket(id);
     refs.clear();
-    assert_eq!(rt; refs.counts(id), Counts::default());
+    assert!(rt; refs.counts(id) == Counts::default());
 }

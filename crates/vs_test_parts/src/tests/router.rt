@@ -6,20 +6,13 @@ use vs_space::Cause;
 
 #[test]
 fn follows_a_hint_once(rt: HostRuntime) {
-    let (Some(first), Some(second)) = (SetNo::new(1), SetNo::new(2)) else {
-        return;
-    };
-    let Some(id) = BucketId::new(3) else {
-        return;
-    };
+    let first = SetNo::new(1).expect(&rt, "1 is a set");
+    let second = SetNo::new(2).expect(&rt, "2 is a set");
+    let id = BucketId::new(3).expect(&rt, "3 is a bucket");
     let mut ids = Ids::new(rt.alloc());
     assert_eq!(rt; ids.reserve(), Ok(()));
     ids.push(id);
-    let made = Router::new(rt.alloc(), 4);
-    assert!(rt; made.is_ok());
-    let Ok(mut router) = made else {
-        return;
-    };
+    let mut router = Router::new(rt.alloc(), 4).expect(&rt, "memory");
     assert!(rt; router.buckets() == 4);
     router.learn(first, &ids);
     assert_eq!(rt; router.cached(id), Some(first));
@@ -33,12 +26,9 @@ fn follows_a_hint_once(rt: HostRuntime) {
 
 #[test]
 fn finds_the_lowest_set_that_serves(rt: HostRuntime) {
-    let (Some(first), Some(second)) = (SetNo::new(1), SetNo::new(2)) else {
-        return;
-    };
-    let Some(id) = BucketId::new(3) else {
-        return;
-    };
+    let first = SetNo::new(1).expect(&rt, "1 is a set");
+    let second = SetNo::new(2).expect(&rt, "2 is a set");
+    let id = BucketId::new(3).expect(&rt, "3 is a bucket");
     for (up, serves, found) in [
         ([true, true], [true, true], Some(first)),
         ([true, true], [false, true], Some(second)),
@@ -57,11 +47,7 @@ fn finds_the_lowest_set_that_serves(rt: HostRuntime) {
                 serves: serves[0],
             },
         ];
-        let made = Router::new(rt.alloc(), 4);
-        assert!(rt; made.is_ok());
-        let Ok(mut router) = made else {
-            return;
-        };
+        let mut router = Router::new(rt.alloc(), 4).expect(&rt, "memory");
         assert!(rt; router.buckets() == 4);
         assert_eq!(rt; router.search(id, &said), found);
         assert!(rt; router.buckets() == 4);

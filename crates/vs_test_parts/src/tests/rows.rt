@@ -12,23 +12,6 @@ fn val(alloc: Global, text: &str) -> Result<Val, RowFault> {
     Val::new(alloc, text.as_bytes())
 }
 
-/// What one operation answers, in a word.
-fn told(alloc: Global, rows: &mut Rows, op: Op) -> Result<String, Fail> {
-    let ops = Ops::one(alloc, op)?;
-    let answers = rows.apply(&ops)?;
-    let word = match answers.get(0) {
-        Some(Answer::Value(value)) => format!(in alloc; "value {:?}", value.as_bytes())?,
-        Some(Answer::NoValue) => format!(in alloc; "no value")?,
-        Some(Answer::Done) => format!(in alloc; "done")?,
-        Some(Answer::Exists) => format!(in alloc; "exists")?,
-        Some(Answer::Differs) => format!(in alloc; "differs")?,
-        Some(Answer::Number(n)) => format!(in alloc; "number {n}")?,
-        Some(Answer::Pairs(page)) => format!(in alloc; "pairs {}", page.len())?,
-        None => format!(in alloc; "nothing")?,
-    };
-    Ok(word)
-}
-
 #[test]
 fn names(rt: HostRuntime) {
     let alloc = rt.alloc();
@@ -46,49 +29,6 @@ fn names(rt: HostRuntime) {
             "{text}"
         );
     }
-}
-
-#[test]
-fn operations(rt: HostRuntime) -> Result<(), Fail> {
-    let alloc = rt.alloc();
-    let mut rows = Rows::new(alloc);
-    for (text, want) in [
-        ("put b 1", "done"),
-        ("put b 2", "done"),
-        ("insert b 3", "exists"),
-        ("get b", "value [50]"),
-        ("insert a 4", "done"),
-        ("swap a 5 6", "differs"),
-        ("swap a 4 6", "done"),
-        ("get a", "value [54]"),
-        ("swap c 1 2", "no value"),
-        ("get c", "no value"),
-        ("count", "number 2"),
-        ("scan a 100", "pairs 2"),
-        ("scan b 100", "pairs 1"),
-        ("scan a 1", "pairs 1"),
-        ("delete a", "done"),
-        ("delete a", "no value"),
-        ("count", "number 1"),
-    ] {
-        let op = read(alloc, text)?;
-        assert_eq!(rt; told(alloc, &mut rows, op)?.as_str(), want, "{text}");
-    }
-    Ok(())
-}
-
-/// The operation that a text names.
-fn read(alloc: Global, text: &str) -> Result<Op, Fail> {
-    let words = text.split(' ').collect::<Vec<&str>>(alloc)?;
-    Ok(match words.as_slice() {
-        ["get", k] => Op::Get(key(alloc, k)?),
-        ["put", k, v] => Op::Put(key(alloc, k)?, val(alloc, v)?),
-        ["insert", k, v] => Op::Insert(key(alloc, k)?, val(alloc, v)?),
-        ["delete", k] => Op::Delete(key(alloc, k)?),
-        ["swap", k, old, new] => Op::Swap(key(alloc, k)?, val(alloc, old)?, val(alloc, new)?),
-        ["scan", k, n] => Op::Scan(key(alloc, k)?, n.parse()?),
-        _ => Op::Count,
-    })
 }
 
 /// Rows with these keys, each with itself as its value.

@@ -7,19 +7,13 @@ use vs_table::Table;
 fn keeps_keys_in_order(rt: HostRuntime) {
     let mut table = Table::new(rt.alloc());
     for (number, value) in [(7, 'a'), (2, 'b'), (9, 'c'), (2, 'd')] {
-        let Some(id) = BucketId::new(number) else {
-            continue;
-        };
+        let id = BucketId::new(number).expect(&rt, "it is a bucket");
         assert_eq!(rt; table.reserve(), Ok(()));
         table.insert(id, value);
     }
-    let Some(low) = BucketId::new(2) else {
-        return;
-    };
+    let low = BucketId::new(2).expect(&rt, "2 is a bucket");
     assert_eq!(rt; table.get(&low), Some(&'d'));
-    if let Some(value) = table.get_mut(&low) {
-        *value = 'e';
-    }
+    *table.get_mut(&low).expect(&rt, "a value") = 'e';
     assert_eq!(rt;
         table.after(&low).map(|entry| (entry.0.get(), entry.1)),
         Some((7, 'a'))

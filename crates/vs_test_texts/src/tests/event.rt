@@ -1,8 +1,8 @@
-//! Event texts, their faults, and a list of events.
+//! Event texts, and a list of events.
 
 use std::alloc::Global;
-use vs_base::ClientNo;
-use vs_event::{Event, EventFault, Trace, read_events, write_events};
+use vs_base::{ClientNo, NoMemory};
+use vs_event::{Event, EventFault, Piece, Trace, read_events, write_events, write_piece};
 
 const EVERY_KIND: &[u8] =
     b"post 1 2\nbegin 64\nact 1\nend 1\ntake 1\ncut 16\nstart 1\nhaul 1 2 32\n\
@@ -26,40 +26,51 @@ fn reads_every_kind_and_writes_it_back(rt: HostRuntime) {
     }
 }
 
-fn bad_line(alloc: Global, text: &[u8]) -> u64 {
-    match read_events(alloc, text) {
-        Err(EventFault::BadEvent(number)) => number,
-        _ => 0,
+/// The pieces of a list of events, one after the other, and the size of each.
+fn in_pieces(alloc: Global, trace: &Trace) -> Result<(Vec<u8>, Vec<usize>), NoMemory> {
+    let mut piece = Piece::new(alloc)?;
+    let mut text = Vec::new(alloc);
+    let mut sizes = Vec::new(alloc);
+    let mut next = 0;
+    while next < trace.len() {
+        next = write_piece(trace, next, &mut piece);
+        text.extend_from_slice(piece.bytes())?;
+        sizes.push(piece.bytes().len())?;
     }
+    Ok((text, sizes))
 }
 
+/// So many lines of this text, and how long the pieces of their text are.
+const PIECES: [(&[u8], u32, &[usize]); 5] = [
+    (b"act 1\n", 0, &[]),
+    (b"fault 1 0 act 1\n", 1, &[16]),
+    (b"fault 1 0 act 1\n", 4096, &[65536]),
+    (b"fault 1 0 act 1\n", 8193, &[65536, 65536, 16]),
+    (b"fault 1 10 act 1\n", 3856, &[65535, 17]),
+];
+
 #[test]
-fn names_the_first_bad_line(rt: HostRuntime) {
-    let alloc = rt.alloc();
-    assert_eq!(rt; bad_line(alloc, b""), 0);
-    assert_eq!(rt; bad_line(alloc, b"act 01\n"), 1);
-    assert_eq!(rt; bad_line(alloc, b"act 1\nact 65\nact 0\n"), 2);
-    assert_eq!(rt; bad_line(alloc, b"act 1\nact 1"), 2);
-    assert_eq!(rt; bad_line(alloc, b"act 1\n\nact 1\n"), 2);
-    assert_eq!(rt; bad_line(alloc, b"act  1\n"), 1);
-    assert_eq!(rt; bad_line(alloc, b"act 1\r\n"), 1);
-    assert_eq!(rt; bad_line(alloc, b"act 1 \n"), 1);
-    assert_eq!(rt; bad_line(alloc, b"haul 1 2\n"), 1);
-    assert_eq!(rt; bad_line(alloc, b"wipe 1 30001\n"), 1);
-    assert_eq!(rt; bad_line(alloc, b"fault 1 1 post 1 1\n"), 1);
-    assert_eq!(rt; bad_line(alloc, b"fault 1 18446744073709551616 act 1\n"), 1);
-    assert_eq!(rt; bad_line(alloc, b"restart 1 kept line 17\n"), 1);
+fn writes_pieces_of_whole_lines(rt: HostRuntime) {
+    for (line, lines, wanted) in PIECES {
+        let mut text = Vec::new(rt.alloc());
+        for _ in 0..lines {
+            text.extend_from_slice(line).expect(&rt, "a text");
+        }
+        let trace = read_events(rt.alloc(), &text).expect(&rt, "a text of events");
+        let (written, sizes) = in_pieces(rt.alloc(), &trace).expect(&rt, "its pieces");
+        assert!(rt; written.as_slice() == text.as_slice());
+        assert_eq!(rt; sizes.as_slice(), wanted);
+    }
 }
 
 #[test]
 fn grows_by_one_event(rt: HostRuntime) {
+    let client = ClientNo::new(7).expect(&rt, "7 is a client");
     let mut trace = Trace::new(rt.alloc());
     assert_eq!(rt; trace.len(), 0);
-    match (trace.reserve(), ClientNo::new(7)) {
-        (Ok(_), Some(client)) => {
-            trace.push(Event::Take(client));
-            assert_eq!(rt; trace.get(0), Some(Event::Take(client)));
-        }
-        _ => panic!(rt; "memory"),
-    }
+    trace.reserve().expect(&rt, "memory");
+    trace.push(Event::Take(client));
+    assert_eq!(rt; trace.len(), 1);
+    assert!(rt; matches!(trace.get(0), Some(Event::Take(_))));
+    assert!(rt; trace.get(1).is_none());
 }

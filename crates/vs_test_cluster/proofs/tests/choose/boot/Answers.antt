@@ -7,8 +7,8 @@ use Rattle.vs_script.specs.Scripts.{Script, script}
 use Rattle.vs_script.specs.declared.script.Script as declared
 use Rattle.vs_test_cluster.proofs.tests.choose.boot.Goals as goal
 
-pub boot-requires : goal.boot-requires
-boot-requires c =
+pub new_core-requires : goal.new_core-requires
+new_core-requires c =
     let config = configuration c.in_ok-config.config in
     let law = c.in_ok-config.ensures.lawful in
     let together = c.in_ok-scripts.ensures.together in
