@@ -6,11 +6,18 @@ use std::{env, io};
 use vs_host::RealHost;
 use vs_top::play_main;
 
-/// The words after the program's name.
+/// The words after the program's name. There are none where one of them isn't UTF-8: then they are no command, and no words
+/// are none either.
 fn words(rt: &HostRuntime) -> io::Result<Vec<String>> {
     let mut words = Vec::new(rt.alloc());
-    for word in env::args(rt)?.skip(1) {
-        words.push(word)?;
+    match env::args(rt) {
+        Ok(all) => {
+            for word in all.skip(1) {
+                words.push(word)?;
+            }
+        }
+        Err(fault) if fault.kind() == io::ErrorKind::InvalidData => {}
+        Err(fault) => return Err(fault),
     }
     Ok(words)
 }
