@@ -1,4 +1,5 @@
 pub mod Added
+pub mod Names
 pub mod Rises
 pub mod Ruled
 pub mod SamePairs
@@ -11,3 +12,11 @@ pub mod Counted
 pub mod Doubled
 pub mod InOrder
 pub mod Indexed
+pub mod Numbers
+pub mod Lists
+pub mod Rows
+pub mod Faults
+pub mod LineEnds
+pub mod Marks
+pub mod Rising
+pub mod Parts

@@ -1,10 +1,17 @@
 pub mod Account
 pub mod ByPlace
 pub mod Doubles
+pub mod Given
 pub mod Legal
+pub mod Operations
 pub mod Order
+pub mod Outcomes
 pub mod Passes
+pub mod Reading
+pub mod Report
+pub mod ReportLines
 pub mod Rules
 pub mod Tally
 pub mod Turn
 pub use Rattle.vs_base.specs.Listed
+pub mod Words
