@@ -1,0 +1,4 @@
+pub mod Drawn
+pub mod DrawnCalls
+pub mod Lawful
+pub mod Lettered

@@ -1,0 +1,4 @@
+pub mod Calls
+pub mod Configurations
+pub mod Draws
+pub mod Generated
