@@ -1,3 +1,4 @@
 //! A module for each crate that is tested.
 
+mod pool;
 mod words;

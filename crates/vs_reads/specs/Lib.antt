@@ -1,0 +1,11 @@
+pub use Rattle.vs_ending.specs.Ending
+pub use Rattle.vs_inputs.specs.Reading
+pub use Rattle.vs_pool.specs.Results
+pub mod Names
+pub mod Faults
+pub mod Reads
+pub mod Jobs
+pub mod Given
+pub mod Causes
+pub mod Lines
+pub mod Endings
