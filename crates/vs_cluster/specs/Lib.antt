@@ -1,0 +1,11 @@
+pub use Rattle.vs_core.specs.Safety
+pub use Rattle.vs_machine.specs.Actors
+pub use Rattle.vs_machine.specs.Driven
+pub use Rattle.vs_world.specs.Counted
+pub use Rattle.vs_world.specs.Played
+pub use Rattle.vs_world.specs.Restarts
+pub use Rattle.vs_world.specs.Steps
+pub mod Calls
+pub mod Cluster
+pub mod Still
+pub mod Steering

@@ -1,0 +1,10 @@
+pub use Rattle.vs_choose.specs.Client
+pub use Rattle.vs_cluster.specs.Cluster
+pub use Rattle.vs_core.specs.Core
+pub use Rattle.vs_machine.specs.Actors
+pub use Rattle.vs_world.specs.Played
+pub mod Drivers
+pub mod Ends
+pub mod Learning
+pub mod Posting
+pub mod Turns
