@@ -1,0 +1,9 @@
+pub mod PlainWords
+pub mod Shapes
+pub mod Needed
+pub mod Top
+pub mod Lines
+pub mod Given
+pub mod Told
+pub mod Asked
+pub mod Numbers

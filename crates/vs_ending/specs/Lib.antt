@@ -1,0 +1,3 @@
+pub use Rattle.vs_host.specs.Calls
+pub mod Ending
+pub mod Lines

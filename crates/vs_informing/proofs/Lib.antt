@@ -1,0 +1,4 @@
+pub mod Opened
+pub mod Causes
+pub mod Good
+pub mod Ending

@@ -1,0 +1,4 @@
+pub mod Words
+pub mod Memory
+pub mod Playing
+pub mod Statuses
