@@ -84,7 +84,7 @@ impl BucketId {
 }
 
 /// The number of a client, from 1 to 64.
-#[derive(Clone, Copy)]
+#[derive(Clone, Copy, PartialEq, Eq)]
 pub struct ClientNo {
     number: u8,
 }

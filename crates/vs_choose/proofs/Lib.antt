@@ -1,1 +1,6 @@
-pub mod Idle
+pub mod Chosen
+pub mod Clients
+pub mod Movers
+pub mod Operators
+pub mod Plans
+pub mod Services

@@ -1,6 +1,6 @@
 //! What a cluster is told when it opens.
 
-ghost use Rattle.std.specs.Prelude.{◌≡◌, IfOk};
+ghost use Rattle.std.specs.Prelude.{◌≡◌, ◌↔◌, IfOk, IsTrue};
 ghost use Rattle.vs_config.specs.Configuration.{configuration};
 
 use crate::set_list::SetList;
@@ -24,7 +24,7 @@ pub struct Config {
 }
 
 /// The configuration of one set, which is one replica set of vshard.
-#[derive(Clone, Copy)]
+#[derive(Clone, Copy, PartialEq, Eq)]
 pub struct SetConfig {
     /// What names the set in its journal. No two sets of a cluster have the same.
     pub uuid: Uuid,
@@ -35,6 +35,17 @@ pub struct SetConfig {
 }
 
 impl Config {
+    /// Whether both have equal numbers and sets. It takes no memory.
+    pub fn equals(&self, other: &Config) -> bool
+        ensures { IsTrue result ↔ (configuration self.now ≡ configuration other.now) }
+    {
+        self.bucket_count == other.bucket_count
+            && self.threshold == other.threshold
+            && self.max_receiving == other.max_receiving
+            && self.max_sending == other.max_sending
+            && self.sets.equals(&other.sets)
+    }
+
     /// A configuration that equals this one.
     pub fn try_clone(&self) -> Result<Config, NoMemory>
         ensures { IfOk result (λ c. configuration c ≡ configuration self.now) }

@@ -94,6 +94,13 @@ impl SetList {
         self.sets.push(set);
     }
 
+    /// Whether both have equal sets, in the same order. It takes no memory.
+    pub fn equals(&self, other: &SetList) -> bool
+        ensures { IsTrue result ↔ (self.now.items ≡ other.now.items) }
+    {
+        self.sets.as_slice() == other.sets.as_slice()
+    }
+
     /// A list that equals this one.
     pub fn try_clone(&self) -> Result<SetList, NoMemory>
         ensures { IfOk result (λ l. l.items ≡ self.now.items) }

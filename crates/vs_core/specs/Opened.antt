@@ -1,6 +1,7 @@
 -- What a core begins with: what the journals of its sets stand for.
 use Rattle.std.specs.Prelude.{◌≡◌, ℕ, zero, suc, ◌<◌, ◌≤◌, List, [], ◌∷◌, ◌++◌, Option, Some, None}
 use Rattle.vs_record.specs.States.{durable}
+pub use Rattle.vs_record.specs.States.{IsOfBuckets}
 use Rattle.vs_record.specs.declared.set_state.SetState.{SetState}
 use Rattle.vs_space.specs.declared.status.Status.{Status}
 use Rattle.vs_machine.specs.Coherence.{IsCoherentBucket}
@@ -13,11 +14,6 @@ use Rattle.vs_core.specs.declared.fault.CoreFault.TheVariants.{Incoherent, NoMem
 -- what the sets hold, of which the first has the first of these states
 abbrev pub held : List SetState → Holdings
 held states = held_as (numbered durable nothing states)
-
--- a state has nothing of a bucket above n
-pub record IsOfBuckets (n : ℕ) (d : SetState) : Type 0 where
-  pub entry : (b : ℕ) → n < b → (durable d).entry b ≡ None
-  pub rows : (b : ℕ) → n < b → (durable d).rows b ≡ []
 
 -- ---- what isn't coherent
 

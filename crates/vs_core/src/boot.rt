@@ -34,11 +34,13 @@ fn views(alloc: Global, config: &Config) -> Result<Vec<SetView>, NoMemory>
     Ok(views)
 }
 
-/// How many buckets each set gets, in order of set number.
-fn shares(alloc: Global, config: &Config) -> Result<Vec<u32>, NoMemory>
-    requires sets { length config.now.sets.items ≤ 32 }
-    requires buckets { config.now.bucket_count ≤ 30000 }
-    ensures { IfOk result (λ shares. shares.items ≡ shares_of (configuration config.now)) }
+/// How many buckets each set of a new cluster gets, in order of set number: the sets share out the buckets by their weights.
+pub fn new_shares(alloc: Global, config: &Config) -> Result<Vec<u32>, NoMemory>
+    requires sets { IsWithin 32 (length config.now.sets.items) }
+    requires buckets { IsWithin 30000 config.now.bucket_count }
+    ensures shares { IfOk result (λ shares. shares.items ≡ shares_of (configuration config.now)) }
+    ensures sets { IfOk result (λ shares. length shares.items ≡ length config.now.sets.items) }
+    ensures buckets { IfOk result (λ shares. sum shares.items ≤ config.now.bucket_count) }
 {
     let views = views(alloc, config)?;
     ideal(alloc, &views)
@@ -74,6 +76,6 @@ pub fn new_states(alloc: Global, config: &Config) -> Result<Vec<SetState>, NoMem
     ensures opens { (scripts : Scripts) → IsLawful (configuration config.now) scripts
         → IsOpening (configuration config.now) scripts (booted (configuration config.now)) }
 {
-    let shares = shares(alloc, config)?;
+    let shares = new_shares(alloc, config)?;
     states_of(alloc, &shares)
 }

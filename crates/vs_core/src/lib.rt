@@ -38,7 +38,7 @@ mod statuses;
 mod transfers;
 mod writes;
 
-pub use boot::new_states;
+pub use boot::{new_shares, new_states};
 pub use cores::Core;
 pub use fault::{CoreFault, Placement};
 pub use laws::safe_runs;

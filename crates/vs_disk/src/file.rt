@@ -7,12 +7,16 @@ ghost use Rattle.vs_disk.specs.Laws.{untold};
 
 use crate::disk::{Disk, DiskFailed, DiskOpen};
 use std::fs::{File, OpenFile, OpenOptions};
+use std::io;
 use std::os::unix::fs::FileExt;
+use std::path::Path;
 use std::rt::Files;
 use vs_base::{NoMemory, raised};
 
 /// A disk over one file. Each error of the system is a fault, and so is a write that takes nothing
-/// of a piece.
+/// of a piece. As long as it is open it has the lock of its file, which the system lets go where the
+/// disk is dropped or the program ends. `open` is refused, and leaves the file as it is, where
+/// another disk has that lock, in this program or in another one.
 #[derive(Drop)]
 pub struct FileDisk<R: Files<File = File> + Drop> {
     rt: R,
@@ -20,6 +24,28 @@ pub struct FileDisk<R: Files<File = File> + Drop> {
     file: Option<File>,
     room: u64,
     faults: u64,
+}
+
+// Syncs the folder of a file, so that a crash leaves the file in it.
+fn sync_folder<R: Files<File = File>>(rt: &R, path: &str) -> io::Result<()> {
+    let folder = match Path::new(path).parent() {
+        Some(folder) if !folder.as_str().is_empty() => folder,
+        _ => Path::new("."),
+    };
+    File::open(rt, folder)?.sync_all()
+}
+
+// Opens a file, which is made where it isn't there, and takes its lock. The folder is synced each
+// time, since who made the file may have ended before that.
+fn locked_file<R: Files<File = File>>(rt: &R, path: &str) -> io::Result<File> {
+    let file = OpenOptions::new()
+        .read(true)
+        .write(true)
+        .create(true)
+        .open(rt, path)?;
+    file.try_lock()?;
+    sync_folder(rt, path)?;
+    Ok(file)
 }
 
 impl<R: Files<File = File> + Drop> FileDisk<R> {
@@ -72,12 +98,7 @@ impl<R: Files<File = File> + Drop> Disk for FileDisk<R> {
         if self.file.is_some() {
             return Ok(());
         }
-        let opened = OpenOptions::new()
-            .read(true)
-            .write(true)
-            .create(true)
-            .open(&self.rt, self.path.as_str());
-        match opened {
+        match locked_file(&self.rt, self.path.as_str()) {
             Ok(file) => {
                 self.file = Some(file);
                 Ok(())

@@ -333,6 +333,22 @@ impl<D: Disk + Drop> Frame<D> {
         Ok(())
     }
 
+    /// Forgets the append that failed: what the journal has up to its closed gate is all, and a
+    /// further `reopen` answers false. It does nothing with the disk, and takes no memory.
+    pub fn forget_last(&mut self)
+        requires ready { IsReady self.old }
+        ensures ready { IsReady self.new }
+        ensures gate { gate_of self.new ≡ gate_of self.old }
+        ensures none { next_of self.new ≡ last_of self.new }
+        ensures level { last_of self.new ≡ gate_of self.new }
+        ensures disk { disk_of self.new ≡ disk_of self.old }
+        ensures version { version_of self.new ≡ version_of self.old }
+    {
+        self.last = self.gate;
+        self.next = self.gate;
+        self.is_found = false;
+    }
+
     /// The version of its journal, 1 or 2.
     pub fn version(&self) -> u8
         ensures version { result ≡ version_of self.now }

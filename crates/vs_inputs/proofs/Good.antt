@@ -11,6 +11,7 @@ use Rattle.vs_inputs.specs.declared.fault.TextFault.TheVariants.{Gather}
 use Rattle.vs_inputs.specs.Files.{Files, HasText}
 use Rattle.vs_inputs.specs.Gives.{GivesConfig, GivesScript}
 use Rattle.vs_inputs.specs.Inputs.{HasConfig, HaveScripts, AreGoodScripts, IsGatherFault, AreGood}
+use Rattle.vs_inputs.specs.Places.{events_place}
 use Rattle.vs_inputs.specs.Reading.{IsOutside, IsGood}
 use Rattle.vs_inputs.specs.Words.{Names}
 
@@ -40,20 +41,20 @@ same_scripts b config files (n ∷ ns) (x ∷ xs) (y ∷ ys) has good =
     let others = same_scripts b config files ns xs ys has.1 good.1 in
     cc
 
-gathers : (fault : InputFault) (scripts : List Script) (gathered : Scripts) → gathering_of scripts ≡ Ok gathered → IsGatherFault fault scripts → IsOutside fault
-gathers (Text k (Gather kind item)) scripts gathered good refused = let no : ⊥ = cc (good, refused.2) in absurd no
-gathers (Text k other) scripts gathered good refused = absurd refused
-gathers (Read k) scripts gathered good refused = tt
-gathers NoMemory scripts gathered good refused = tt
+pub gathers : (place : ℕ) (fault : InputFault) (scripts : List Script) (gathered : Scripts) → gathering_of scripts ≡ Ok gathered → IsGatherFault place fault scripts → IsOutside fault
+gathers place (Text k (Gather kind item)) scripts gathered good refused = let no : ⊥ = cc (good, refused.2) in absurd no
+gathers place (Text k other) scripts gathered good refused = absurd refused
+gathers place (Read k) scripts gathered good refused = tt
+gathers place NoMemory scripts gathered good refused = tt
 
 -- the scripts of good files are gathered
-pub good_gathers : (b : Built) (files : Files) (names : Names) (config : Configuration) (scripts : List Script) (fault : InputFault) → HasConfig files names config → HaveScripts b config files names.scripts scripts → IsGatherFault fault scripts → AreGood b files names
+pub good_gathers : (b : Built) (files : Files) (names : Names) (config : Configuration) (scripts : List Script) (fault : InputFault) → HasConfig files names config → HaveScripts b config files names.scripts scripts → IsGatherFault events_place fault scripts → AreGood b files names
     → IsOutside fault
 good_gathers b files names config scripts fault has-config have-scripts refused good =
     let same = same_config files names config good.config has-config good.config_file in
     let have : HaveScripts b good.config files names.scripts scripts = subst (λ (c : Configuration). HaveScripts b c files names.scripts scripts) same have-scripts in
     let each = same_scripts b good.config files names.scripts scripts good.each have good.script_files in
-    gathers fault scripts good.scripts (rw each good.gathered) refused
+    gathers events_place fault scripts good.scripts (rw each good.gathered) refused
 
 -- and their scripts are good over the configuration that was read
 pub good_scripts : (b : Built) (files : Files) (names : Names) (config : Configuration) → HasConfig files names config → (good : AreGood b files names) → AreGoodScripts b config files names.scripts good.each

@@ -10,7 +10,6 @@ use Rattle.vs_script.specs.Lawful.{IsLawfulScript}
 use Rattle.vs_script.specs.Scripts.{Script}
 use Rattle.vs_inputs.specs.declared.built.Built.{Built}
 use Rattle.vs_inputs.specs.declared.fault.InputFault.{InputFault}
-use Rattle.vs_inputs.specs.Places.{script_place}
 use Rattle.vs_inputs.specs.Files.{HasText}
 use Rattle.vs_inputs.specs.Gives.{GivesScript}
 use Rattle.vs_inputs.specs.Inputs.{Each, HaveScripts, AreGoodScripts, IsScriptCause}
@@ -59,9 +58,9 @@ goes_on b config names old mid new i given name one so_far within name_is reads 
       lawful = All-append (IsLawfulScript config.bucket_count (length config.sets)) given (one ∷ []) so_far.lawful (one_is (IsLawfulScript config.bucket_count (length config.sets)) one lawful);
     }
 
-pub script_cause : (b : Built) (config : Configuration) (names : List (List ℕ)) (fault : InputFault) (old mid new : Told) (i : ℕ) (given : List Script) (name : List ℕ) (place : ℕ) → ReadSoFar b config names old mid i given → i < length names → get_or names i [] ≡ name → place ≡ script_place i
-    → IsFileCause fault place name (GivesScript b config) mid new → IsScriptCause b config names fault old new
-script_cause b config names fault old mid new i given name place so_far within name_is place_is cause = record {
+pub script_cause : (b : Built) (config : Configuration) (names : List (List ℕ)) (fault : InputFault) (old mid new : Told) (i : ℕ) (given : List Script) (name : List ℕ) (place first : ℕ) → ReadSoFar b config names old mid i given → i < length names → get_or names i [] ≡ name → place ≡ first + i
+    → IsFileCause fault place name (GivesScript b config) mid new → IsScriptCause b config first names fault old new
+script_cause b config names fault old mid new i given name place first so_far within name_is place_is cause = record {
   before = given;
   before_files = rw so_far.count so_far.files;
   there = rw so_far.count within;

@@ -12,7 +12,7 @@ use Rattle.vs_inputs.specs.declared.built.Built.{Built}
 use Rattle.vs_inputs.specs.declared.fault.InputFault.{InputFault}
 use Rattle.vs_inputs.specs.declared.fault.InputFault.TheVariants.{Text, NoMemory}
 use Rattle.vs_inputs.specs.declared.fault.TextFault.TheVariants.{Gather}
-use Rattle.vs_inputs.specs.Places.{config_place, events_place, script_place}
+use Rattle.vs_inputs.specs.Places.{config_place, events_place, first_script_place}
 use Rattle.vs_inputs.specs.Files.{Files, HasText}
 use Rattle.vs_inputs.specs.Gives.{GivesConfig, GivesEvents, GivesScript}
 use Rattle.vs_inputs.specs.Reading.{IsFileCause, IsGood}
@@ -67,13 +67,13 @@ pub record IsEventsCause (b : Built) (names : Names) (fault : InputFault) (old n
   pub config_file : HasConfig old.file names config
   pub cause : IsFileCause fault events_place names.events (GivesEvents b) old new
 
--- of the files of these names, the scripts of those before one were read
-pub record IsScriptCause (b : Built) (config : Configuration) (names : List (List ℕ))
+-- of the files of these names, the first of which is the input of this place, the scripts of those before one were read
+pub record IsScriptCause (b : Built) (config : Configuration) (first : ℕ) (names : List (List ℕ))
     (fault : InputFault) (old new : Told) : Type 0 where
   pub before : List Script
   pub before_files : HaveScripts b config old.file (take (length before) names) before
   pub there : length before < length names
-  pub cause : IsFileCause fault (script_place (length before))
+  pub cause : IsFileCause fault (first + length before)
       (get_or names (length before) []) (GivesScript b config) old new
 
 pub record IsScriptsCause (b : Built) (names : Names) (fault : InputFault) (old new : Told)
@@ -82,15 +82,15 @@ pub record IsScriptsCause (b : Built) (names : Names) (fault : InputFault) (old 
   pub config_file : HasConfig old.file names config
   pub events : List Event
   pub events_file : HasEvents b old.file names events
-  pub script : IsScriptCause b config names.scripts fault old new
+  pub script : IsScriptCause b config first_script_place names.scripts fault old new
 
--- the scripts, the first of which is the input after the events, can't run together
-abbrev pub IsGatherFault : InputFault → List Script → Type 0
-IsGatherFault (Text k (Gather kind item)) scripts =
-    (number : ℕ) × (k ≡ events_place + number)
+-- the scripts, the first of which is the input after this place, can't run together
+abbrev pub IsGatherFault : ℕ → InputFault → List Script → Type 0
+IsGatherFault place (Text k (Gather kind item)) scripts =
+    (number : ℕ) × (k ≡ place + number)
     × (gathering_of scripts ≡ Err (Bad kind number item))
-IsGatherFault NoMemory scripts = ⊤
-IsGatherFault fault scripts = ⊥
+IsGatherFault place NoMemory scripts = ⊤
+IsGatherFault place fault scripts = ⊥
 
 pub record IsGatherCause (b : Built) (names : Names) (fault : InputFault) (files : Files)
     : Type 0 where
@@ -100,7 +100,7 @@ pub record IsGatherCause (b : Built) (names : Names) (fault : InputFault) (files
   pub events_file : HasEvents b files names events
   pub scripts : List Script
   pub script_files : HaveScripts b config files names.scripts scripts
-  pub refused : IsGatherFault fault scripts
+  pub refused : IsGatherFault events_place fault scripts
 
 abbrev pub IsInputCause : Built → Names → InputFault → Told → Told → Type 0
 IsInputCause b names fault old new =

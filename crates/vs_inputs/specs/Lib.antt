@@ -7,5 +7,6 @@ pub mod Places
 pub mod Gives
 pub mod Reading
 pub mod Inputs
+pub mod RunInputs
 pub mod KindNames
 pub mod FaultLine

@@ -1,6 +1,6 @@
 //! The files of a command, and what they give.
 
-ghost use Rattle.std.specs.Prelude.{ℕ, ◌≡◌, Ok, map, All, IfOk, IfErr};
+ghost use Rattle.std.specs.Prelude.{ℕ, ◌≡◌, ◌≤◌, Ok, map, All, IfOk, IfErr};
 ghost use Rattle.vs_config.specs.Configuration.{configuration};
 ghost use Rattle.vs_script.specs.Gathering.{gathering_of};
 ghost use Rattle.vs_script.specs.Lawful.{IsLawfulCall, IsLawfulCommand, IsLawfulScript, MayRunTogether};
@@ -13,7 +13,7 @@ use crate::built::Built;
 use crate::config::read_config_file;
 use crate::events::read_events_file;
 use crate::fault::{InputFault, TextFault};
-use crate::place::EVENTS_PLACE;
+use crate::place::{EVENTS_PLACE, FIRST_SCRIPT_PLACE};
 use crate::scripts::read_script_files;
 use crate::words::FileNames;
 use std::alloc::Global;
@@ -30,10 +30,15 @@ pub struct Inputs {
     pub scripts: Scripts,
 }
 
-/// Gathers the scripts, the first of which is the input after the events.
-fn gather_scripts(alloc: Global, given: Vec<Script>) -> Result<Scripts, InputFault>
+/// Gathers the scripts, the first of which is the input after this place.
+pub(crate) fn gather_scripts(
+    alloc: Global,
+    given: Vec<Script>,
+    place: u64,
+) -> Result<Scripts, InputFault>
+    requires { place ≤ 2 }
     ensures ok { IfOk result (λ s. gathering_of (map script given.items) ≡ Ok (scripts s)) }
-    ensures err { IfErr result (λ fault. IsGatherFault fault (map script given.items)) }
+    ensures err { IfErr result (λ fault. IsGatherFault place fault (map script given.items)) }
     ensures together { IfOk result (λ s. MayRunTogether (scripts s)) }
     ensures lawful { IfOk result (λ s. (m n : ℕ) → All (IsLawfulScript m n) (map script given.items)
         → All (All (IsLawfulCall m)) (scripts s).clients
@@ -42,7 +47,7 @@ fn gather_scripts(alloc: Global, given: Vec<Script>) -> Result<Scripts, InputFau
     match gather(alloc, given) {
         Ok(scripts) => Ok(scripts),
         Err(GatherFault::Bad { kind, script, item }) => Err(InputFault::Text(
-            EVENTS_PLACE + u64::from(script),
+            place + u64::from(script),
             TextFault::Gather(kind, item),
         )),
         Err(GatherFault::NoMemory) => Err(InputFault::NoMemory),
@@ -85,8 +90,15 @@ pub fn read_inputs<H: Host>(
 {
     let config = read_config_file(alloc, host, names.config)?;
     let trace = read_events_file(alloc, host, built, names.events)?;
-    let given = read_script_files(alloc, host, built, &config, names.scripts)?;
-    let scripts = gather_scripts(alloc, given)?;
+    let given = read_script_files(
+        alloc,
+        host,
+        built,
+        &config,
+        names.scripts,
+        FIRST_SCRIPT_PLACE,
+    )?;
+    let scripts = gather_scripts(alloc, given, EVENTS_PLACE)?;
     Ok(Inputs {
         config,
         trace,

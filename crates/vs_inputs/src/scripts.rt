@@ -1,6 +1,6 @@
 //! The scripts.
 
-ghost use Rattle.std.specs.Prelude.{List, ◌≡◌, map, length, IsTrue, All, IfOk, IfErr};
+ghost use Rattle.std.specs.Prelude.{List, ◌≡◌, ◌≤◌, map, length, IsTrue, All, IfOk, IfErr};
 ghost use Rattle.std.specs.List.{list_any};
 ghost use Rattle.vs_config.specs.Configuration.{configuration};
 ghost use Rattle.vs_script.specs.Lawful.{IsLawfulScript};
@@ -14,7 +14,6 @@ ghost use Rattle.vs_inputs.specs.Words.{texts};
 
 use crate::built::Built;
 use crate::fault::{InputFault, TextFault};
-use crate::place::FIRST_SCRIPT_PLACE;
 use crate::read::read_text;
 use std::alloc::Global;
 use vs_base::Items;
@@ -76,7 +75,7 @@ fn script_of(
 }
 
 /// Reads a script from its file.
-fn read_script_file<H: Host>(
+pub fn read_script_file<H: Host>(
     alloc: Global,
     host: &mut H,
     built: Built,
@@ -94,15 +93,17 @@ fn read_script_file<H: Host>(
     script_of(alloc, built, config, &text, place)
 }
 
-/// Reads the scripts from their files, in their order.
+/// Reads the scripts from their files, in their order. The first is the input of the place `first`.
 pub fn read_script_files<H: Host>(
     alloc: Global,
     host: &mut H,
     built: Built,
     config: &Config,
     names: &[String],
+    first: u64,
 ) -> Result<Vec<Script>, InputFault>
-    requires { All (λ name. IsTrue ((H.told host.old).may_read name)) (texts names.now) }
+    requires first { first ≤ 3 }
+    requires names { All (λ name. IsTrue ((H.told host.old).may_read name)) (texts names.now) }
     ensures host { OnlyReads (H.told host.old) (H.told host.new) }
     ensures ok { IfOk result (λ given. HaveScripts built (configuration config.now)
         (H.told host.old).file (texts names.now) (map script given.items)) }
@@ -110,14 +111,14 @@ pub fn read_script_files<H: Host>(
         (IsLawfulScript config.now.bucket_count (length config.now.sets.items))
         (map script given.items)) }
     ensures err { IfErr result (λ fault. IsScriptCause built (configuration config.now)
-        (texts names.now) fault (H.told host.old) (H.told host.new)) }
+        first (texts names.now) fault (H.told host.old) (H.told host.new)) }
     ensures good { (scripts : List plain.Script) → AreGoodScripts built (configuration config.now)
         (H.told host.old).file (texts names.now) scripts → IfErr result IsOutside }
 {
     let mut given = Items::new(alloc);
     for (i, name) in names.iter().enumerate() {
         given.reserve()?;
-        let place = FIRST_SCRIPT_PLACE + i as u64;
+        let place = first + i as u64;
         let script = read_script_file(alloc, host, built, config, name.as_str(), place)?;
         given.push(script);
     }

@@ -8,3 +8,4 @@ pub mod Found
 pub mod Tables
 pub mod States
 pub mod Fitting
+pub mod Buckets

@@ -1,5 +1,5 @@
 -- What a set's journal stands for: its entries and the rows of its buckets.
-use Rattle.std.specs.Prelude.{◌≡◌, ⊤, ℕ, ◌+◌, ◌≤◌, ◌==◌, ◌&&◌, nat_le, nat_lt, if◌then◌else◌, List, [], ◌∷◌, length, drop, Option, Some, None}
+use Rattle.std.specs.Prelude.{◌≡◌, ⊤, ℕ, ◌+◌, ◌<◌, ◌≤◌, ◌==◌, ◌&&◌, nat_le, nat_lt, if◌then◌else◌, List, [], ◌∷◌, length, drop, Option, Some, None}
 use Rattle.vs_rows.specs.RowMap.{RowMap, with_rows}
 use Rattle.vs_rows.specs.Operations.{rows_after}
 use Rattle.vs_space.specs.Status.{MayChange}
@@ -75,6 +75,13 @@ Fits d (Forget b) = (d.entry b ≡ Some Garbage) × (d.rows b ≡ [])
 pub record FitsState (buckets : ℕ) (d : Durable) (c : Change) : Type 0 where
   pub bucket : bucket_of c ≤ buckets
   pub fits : Fits d c
+
+-- ---- buckets
+
+-- there is no entry and there are no rows of a bucket above n
+pub record IsOfBuckets (n : ℕ) (d : Durable) : Type 0 where
+  pub entry : (b : ℕ) → n < b → d.entry b ≡ None
+  pub rows : (b : ℕ) → n < b → d.rows b ≡ []
 
 -- ---- a bucket in two states
 

@@ -8,10 +8,11 @@ ghost use Rattle.vs_state.specs.Plain.{plain, entry_in};
 ghost use Rattle.vs_state.specs.Sized.{IsSized};
 ghost use Rattle.vs_state.specs.Tables.{numbered};
 ghost use Rattle.vs_report.specs.Adds.{Adds};
+ghost use Rattle.vs_report.specs.PlacementText.{places_text, placement_text};
 
 use crate::statuses::put_status;
 use crate::words::{put_number, put_text};
-use vs_base::{BucketId, NoMemory};
+use vs_base::{BucketId, NoMemory, SetNo};
 use vs_space::Status;
 use vs_state::{SetTables, State};
 
@@ -51,6 +52,29 @@ fn put_bucket(out: &mut Vec<u8>, state: &State, bucket: u32) -> Result<(), NoMem
         put_entries(out, &state.sets, id)?;
     }
     put_text(out, b"\n")
+}
+
+/// Appends these sets, each with its status.
+fn put_places(out: &mut Vec<u8>, entries: &[(SetNo, Status)]) -> Result<(), NoMemory>
+    ensures { OnOk result (Adds out.old out.new (places_text entries.now)) }
+{
+    for (set, status) in entries {
+        put_entry(out, u64::from(set.get()), *status)?;
+    }
+    Ok(())
+}
+
+/// Appends the words of a bucket's line: the bucket, and these sets with the status of it there.
+pub fn put_placement(
+    out: &mut Vec<u8>,
+    bucket: BucketId,
+    entries: &[(SetNo, Status)],
+) -> Result<(), NoMemory>
+    ensures { OnOk result (Adds out.old out.new (placement_text bucket entries.now)) }
+{
+    put_text(out, b"bucket")?;
+    put_number(out, u64::from(bucket.get()))?;
+    put_places(out, entries)
 }
 
 /// Appends the lines of the buckets.

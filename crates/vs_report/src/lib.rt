@@ -15,5 +15,7 @@ mod statuses;
 mod text;
 mod words;
 
+pub use answers::put_answers;
+pub use buckets::put_placement;
 pub use reasons::put_reason;
 pub use text::report;

@@ -7,7 +7,7 @@ use crate::val::Val;
 use vs_base::NoMemory;
 
 /// An operation on the rows of a bucket.
-#[derive(Drop)]
+#[derive(Drop, PartialEq)]
 pub enum Op {
     /// The value of a key.
     Get(Key),

@@ -1,6 +1,6 @@
 //! The operations of a call.
 
-ghost use Rattle.std.specs.Prelude.{◌≡◌, ◌≤◌, ◌<◌, ◌+◌, ◌∷◌, [], ◌++◌, length, slice_get, OnOk, IfOk};
+ghost use Rattle.std.specs.Prelude.{◌≡◌, ◌≤◌, ◌<◌, ◌+◌, ◌∷◌, [], ◌++◌, length, slice_get, ◌↔◌, IsTrue, OnOk, IfOk};
 ghost use Rattle.std.specs.Option.{option_copied};
 
 use crate::op::Op;
@@ -78,6 +78,13 @@ impl Ops {
         ensures room { self.old.room ≤ self.new.room + 1 }
     {
         self.ops.push(op).unwrap();
+    }
+
+    /// Whether both have the same operations, in the same order. It takes no memory.
+    pub fn equals(&self, other: &Ops) -> bool
+        ensures { IsTrue result ↔ (self.now.items ≡ other.now.items) }
+    {
+        self.ops == other.ops
     }
 
     pub fn try_clone(&self) -> Result<Ops, NoMemory>

@@ -136,6 +136,21 @@ impl Rows {
         Ok(answers)
     }
 
+    /// What operations answer, applied one after the other. The rows stay.
+    pub fn answers(&self, ops: &Ops) -> Result<Answers, NoMemory>
+        ensures { IfOk result (λ answers.
+            said_all answers.items ≡ answers_to self.now.items ops.now.items) }
+    {
+        let alloc = *self.rows.allocator();
+        let mut changes = Changes::new(alloc);
+        let mut answers = Items::new(alloc);
+        answers.reserve_many(ops.len())?;
+        for op in ops.as_slice() {
+            answers.push(changes.answer(&self.rows, op)?);
+        }
+        Ok(answers)
+    }
+
     /// What operations, applied one after the other, would change and answer. The rows stay.
     /// Room is made for as many rows as there are changes.
     pub fn stage(&mut self, ops: &Ops) -> Result<Staged, NoMemory>

@@ -7,5 +7,7 @@ mod Names
 mod Numbers
 mod OpLists
 mod Ranges
+pub mod Same
+mod SameCommands
 mod Steps
 mod Texts

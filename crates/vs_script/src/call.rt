@@ -1,6 +1,6 @@
 //! The calls of a client.
 
-ghost use Rattle.std.specs.Prelude.{◌≡◌, IfOk};
+ghost use Rattle.std.specs.Prelude.{◌≡◌, ◌↔◌, IfOk, IsTrue};
 ghost use Rattle.vs_text.specs.Lines.{words_in};
 ghost use Rattle.vs_script.specs.Calls.{call, calls};
 ghost use Rattle.vs_script.specs.Given.{MayGive, Takes};
@@ -37,6 +37,21 @@ pub fn copy_calls(alloc: Global, given: &Calls) -> Result<Calls, NoMemory>
     Ok(copy)
 }
 
+/// Whether two lists have equal calls, in the same order. It takes no memory.
+pub(crate) fn same_calls(some: &Calls, others: &Calls) -> bool
+    ensures { IsTrue result ↔ (calls some.now.items ≡ calls others.now.items) }
+{
+    for (i, call) in some.as_slice().iter().enumerate() {
+        let Some(other) = others.get(i) else {
+            return false;
+        };
+        if !call.equals(other) {
+            return false;
+        }
+    }
+    some.len() == others.len()
+}
+
 fn mode(words: &mut Words) -> Result<Mode, ScriptKind>
     ensures { Takes (λ x. x) result words.new (mode_at words.old) }
 {
@@ -59,6 +74,13 @@ impl Call {
             bucket: self.bucket,
             ops,
         })
+    }
+
+    /// Whether both have the same mode, bucket and operations. It takes no memory.
+    pub fn equals(&self, other: &Call) -> bool
+        ensures { IsTrue result ↔ (call self.now ≡ call other.now) }
+    {
+        self.mode == other.mode && self.bucket == other.bucket && self.ops.equals(&other.ops)
     }
 
     /// The call of a line, over this many buckets.

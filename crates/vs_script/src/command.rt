@@ -1,6 +1,6 @@
 //! The commands of an operator.
 
-ghost use Rattle.std.specs.Prelude.{ℕ, ◌≡◌, ◌≤◌, IfOk};
+ghost use Rattle.std.specs.Prelude.{ℕ, ◌≡◌, ◌≤◌, ◌↔◌, IfOk, IsTrue};
 ghost use Rattle.vs_text.specs.Lines.{words_in};
 ghost use Rattle.vs_script.specs.Given.{Takes};
 ghost use Rattle.vs_script.specs.Lines.{command_at, command_of};
@@ -12,7 +12,7 @@ use std::alloc::Global;
 use vs_base::{BucketId, ClientNo, Items, NoMemory, SetNo};
 
 /// A command of an operator.
-#[derive(Clone, Copy)]
+#[derive(Clone, Copy, PartialEq, Eq)]
 pub enum Command {
     /// Moves a bucket from a set to another, as `vshard.storage.bucket_send`.
     Send(BucketId, SetNo, SetNo),
@@ -45,6 +45,13 @@ pub fn copy_commands(alloc: Global, given: &Commands) -> Result<Commands, NoMemo
         copy.push(*command);
     }
     Ok(copy)
+}
+
+/// Whether two lists have equal commands, in the same order. It takes no memory.
+pub(crate) fn same_commands(some: &Commands, others: &Commands) -> bool
+    ensures { IsTrue result ↔ (some.now.items ≡ others.now.items) }
+{
+    some.as_slice() == others.as_slice()
 }
 
 fn send(words: &mut Words, buckets: u32, sets: u32) -> Result<Command, ScriptKind>

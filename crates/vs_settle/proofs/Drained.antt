@@ -55,7 +55,7 @@ emptying_ends p q m n x k e all = record {
   paid = e.paid;
   none = λ y known.
       let y_in = within (sets_of (state_of q)) y known in
-      let same : sets_of (state_of q) ≡ sets_of (state_of p) = ap (λ (c : Configuration). length c.sets) e.follows.config in
+      let same : sets_of (state_of q) ≡ sets_of (state_of p) = ap (λ (c : Configuration). length c.sets) e.follows.carries.config in
       e.none y y_in.0 (omega (arith, y_in.1, same, all));
   others = e.others;
 }
@@ -83,7 +83,7 @@ quieting_goes_on p q r m n l k e f d =
     by : (x y : ℕ) → 1 ≤ x → has_set (state_of r) y ≡ true → (x ≡ k + 1) ⊎ (x ≤ k) → HasNoMessage (state_of r) x y
     by x y from known (inl is) = subst (λ z. HasNoMessage (state_of r) z y) (sym is) (d.none y known)
     by x y from known (inr below) =
-        let before : has_set (state_of q) y ≡ true = subst (λ (c : Configuration). is_to (length c.sets) y ≡ true) f.config known in
+        let before : has_set (state_of q) y ≡ true = subst (λ (c : Configuration). is_to (length c.sets) y ≡ true) f.carries.config known in
         none_stays (state_of q) (state_of r) x y (d.others x y (λ is. absurd (omega (arith, is, below)))) (e.none x y from below before)
 
 first_none : {A : Type 0} (t : Bool) (xs : List A) → t ≡ false → (if t then None else first xs) ≡ None → xs ≡ []
@@ -104,7 +104,7 @@ quieting_ends p q m n k e all out x y ne = by (is_link (state_of q) x y) refl
         let parts = both_are (has_set (state_of q) x && has_set (state_of q) y) (not (x == y)) is in
         let known = both_are (has_set (state_of q) x) (has_set (state_of q) y) parts.0 in
         let x_in = within (sets_of (state_of q)) x known.0 in
-        let same : sets_of (state_of q) ≡ sets_of (state_of p) = ap (λ (c : Configuration). length c.sets) e.follows.config in
+        let same : sets_of (state_of q) ≡ sets_of (state_of p) = ap (λ (c : Configuration). length c.sets) e.follows.carries.config in
         let none = e.none x y x_in.0 (omega (arith, x_in.1, same, all)) known.1 in
         record {
           calls = first_none (x == y) _ (ne_eqb x y ne) none.calls;

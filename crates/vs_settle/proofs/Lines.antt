@@ -29,7 +29,7 @@ use Rattle.vs_settle.specs.Service.{IsResting, IsPaid, Follows}
 use Rattle.vs_settle.specs.Weight.{load, loads, prices, weight}
 use Rattle.vs_settle.proofs.Following.{follows_none, follows_then}
 use Rattle.vs_settle.proofs.Hearing.{cheaper}
-use Rattle.vs_settle.proofs.Possible.{possible, deliver_is, hear_is}
+use Rattle.vs_settle.proofs.Possible.{next_of, possible, deliver_is, hear_is}
 use Rattle.vs_settle.proofs.Tables.{put_at_here, put_at_there, within}
 use Rattle.vs_settle.proofs.Weights.{loads_at, prices_le}
 
@@ -131,6 +131,13 @@ line_possible s x y (Hear p q) from to on =
     subst (λ v. IsPossible s (Hear v q)) (sym on.0) (subst (λ v. IsPossible s (Hear x v)) (sym on.1) (possible s _ (Hear x y) (hear_is s x y from to head.0 head.1)))
 line_possible s x y e from to on = absurd on
 
+-- and it costs something
+pub line_costs : (s : State) (x y : ℕ) (e : Event) → IsResting s → has_set s x ≡ true → has_set s y ≡ true → IsOnLine s x y e → 1 ≤ weight s
+line_costs s x y e r from to on =
+    let t = next_of (step s e) (line_possible s x y e from to on) in
+    let lighter = (line_lighter s t.0 x y e r on t.1).lighter in
+    omega (arith, lighter)
+
 -- the same along the events of the service so far
 pub record Draining (p : Played) (m : ℕ) (q : Played) (n : ℕ) (x y : ℕ) : Type 0 where
   pub follows : Follows p m q n
@@ -153,7 +160,7 @@ draining_goes_on p q r m n k x y e d on h f ticks =
 
 -- a set of the cluster stays one
 pub set_stays : (p q : Played) (m n x : ℕ) → Follows p m q n → has_set (state_of p) x ≡ true → has_set (state_of q) x ≡ true
-set_stays p q m n x f h = subst (λ (c : Configuration). is_to (length c.sets) x ≡ true) (sym f.config) h
+set_stays p q m n x f h = subst (λ (c : Configuration). is_to (length c.sets) x ≡ true) (sym f.carries.config) h
 
 pub bucket_stays : (p q : Played) (m n b : ℕ) → Follows p m q n → has_bucket (state_of p) b ≡ true → has_bucket (state_of q) b ≡ true
-bucket_stays p q m n b f h = subst (λ (c : Configuration). is_to c.bucket_count b ≡ true) (sym f.config) h
+bucket_stays p q m n b f h = subst (λ (c : Configuration). is_to c.bucket_count b ≡ true) (sym f.carries.config) h

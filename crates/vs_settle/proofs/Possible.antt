@@ -20,7 +20,7 @@ use Rattle.vs_machine.specs.Actors.{IsPossible}
 use Rattle.vs_machine.specs.Step.{step}
 use Rattle.std.specs.Prelude.{Bool, Result}
 
-needs_true : {B : Type 0} (t : Bool) (r : Reason) (rest : Result B Reason) → t ≡ true → (needs t r >> rest) ≡ rest
+pub needs_true : {B : Type 0} (t : Bool) (r : Reason) (rest : Result B Reason) → t ≡ true → (needs t r >> rest) ≡ rest
 needs_true t r rest e = ap (λ u. needs u r >> rest) e
 
 wants_some : {A B : Type 0} (o : Option A) (r : Reason) (f : A → Result B Reason) (x : A) → o ≡ Some x → (wants o r >>= f) ≡ f x

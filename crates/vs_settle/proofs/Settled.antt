@@ -1,5 +1,5 @@
 -- What the entries of a bucket may be, and where a cluster is settled.
-use Rattle.std.proofs.Common.{inl, inr, ◌≡◌, ℕ, ◌*◌, ◌<◌, ◌≤◌, ◌==◌, Bool, true, false, refl, sym, ap, subst, ◌∙◌, arith, Option, Some, None}
+use Rattle.std.proofs.Common.{inl, inr, ◌≡◌, ℕ, ◌+◌, ◌*◌, ◌<◌, ◌≤◌, ◌==◌, Bool, true, false, refl, sym, ap, subst, ◌∙◌, arith, Option, Some, None}
 use Rattle.std.specs.Prelude.{◌≢◌, ◌⊎◌, if◌then◌else◌}
 use Rattle.std.proofs.lemmas.Bool.{cases_eq}
 use Rattle.vs_rows.specs.RowMap.{RowMap}
@@ -17,8 +17,8 @@ use Rattle.vs_machine.proofs.Owners.{sending_owns}
 use Rattle.vs_machine.proofs.Reached.{reached_whole}
 use Rattle.vs_settle.specs.Service.{IsResting}
 use Rattle.vs_settle.specs.Tasks.{rank, IsUpTo}
-use Rattle.vs_settle.specs.Weight.{load, load_at, loads, pages, price, price_at, prices, weight}
-use Rattle.vs_settle.proofs.Sums.{over_le, sum_scale}
+use Rattle.vs_settle.specs.Weight.{load, load_at, loads, pages, price, price_at, prices, weight, due, due_at}
+use Rattle.vs_settle.proofs.Sums.{over_le, sum_le, sum_ones, sum_scale}
 use Rattle.vs_settle.proofs.Tables.{is_within}
 
 -- ---- a set that asks decides
@@ -139,14 +139,28 @@ load_within s x y = by (x == y)
     by true = omega arith
     by false = omega arith
 
-pub weight_within : (s : State) → AreUp s → weight s ≤ settle_bound s
-unfolding weight
+-- where no set is down
+pub weight_within : (s : State) → AreUp s → weight s ≤ due s
+unfolding weight due
 weight_within s up =
     let n = sets_of s in
     let m = s.config.bucket_count in
     let lines : loads s.link n ≤ 2 * messages_of s = sum_scale (λ x. sum_to (load_at s.link x) n) (λ x. sum_to (λ y. if x == y then 0 else messages_in (s.link x y)) n) 2 n (λ x. sum_scale (load_at s.link x) (λ y. if x == y then 0 else messages_in (s.link x y)) 2 n (load_within s x)) in
     let costs : prices s.bucket n m ≤ sum_to (λ x. sum_to (cost_at s x) m) n = over_le (price_at s.bucket) (cost_at s) n m (λ x b from to _ _. cost x b (up x from to)) in
-    omega (arith, lines, costs)
+    let starts : sum_to (λ x. sum_to (cost_at s x) m) n ≤ sum_to (due_at s) n = sum_le (λ x. sum_to (cost_at s x) m) (due_at s) n (λ x _ _. omega arith) in
+    omega (arith, lines, costs, starts)
   where
     cost : (x b : ℕ) → s.up x ≡ true → price_at s.bucket x b ≤ cost_at s x b
     cost x b is = subst (λ (t : Bool). price_at s.bucket x b ≤ cost_with (if t then None else s.pending x) (s.bucket b) b x) (sym is) (price_within _ _)
+
+pub due_within : (s : State) → due s ≤ settle_bound s
+unfolding due
+due_within s =
+    let n = sets_of s in
+    let m = s.config.bucket_count in
+    let starts : sum_to (due_at s) n ≤ n + sum_to (λ x. sum_to (cost_at s x) m) n = sum_ones (due_at s) (λ x. sum_to (cost_at s x) m) n (λ x. one x (s.up x)) in
+    omega (arith, starts)
+  where
+    one : (x : ℕ) (t : Bool) → (if t then 0 else 1) + sum_to (cost_at s x) s.config.bucket_count ≤ 1 + sum_to (cost_at s x) s.config.bucket_count
+    one x true = omega arith
+    one x false = omega arith

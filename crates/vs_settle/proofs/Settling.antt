@@ -104,10 +104,16 @@ condemning_settles s t x b d can sent h =
     (let lighter = condemned_lighter s x b d can sent in
     (record { moves = condemned_moves s x b d can sent; rank_is = subst (λ e. rank e < 2) (sym (condemned_entry s x b d can sent)) (omega arith); lighter = omega (arith, lighter) }, condemned_entry s x b d can sent))
 
+pub condemning_costs : (s : State) (x b d : ℕ) → IsNextEntry s x b 1 → (s.bucket b).entry x ≡ Some (Sent d) → 1 ≤ weight s
+condemning_costs s x b d can sent = let lighter = condemned_lighter s x b d can sent in omega (arith, lighter)
+
 pub condemning_collects : (p q : Played) (m n x b : ℕ) → IsNextEntry (state_of p) x b 1 → Follows p m q n → Settles (state_of p) (state_of q) x b 2 1 → ((state_of q).bucket b).entry x ≡ Some Garbage → CanCollect (state_of q) x b
 condemning_collects p q m n x b next f one at = record { rests = f.rests; silent = one.moves.silent; set = set_stays p q m n x f next.set; bucket = bucket_stays p q m n b f next.bucket; garbage = at }
 
 -- ---- a bucket that is garbage is wiped, and forgotten
+
+pub collecting_costs : (s : State) (x b : ℕ) → CanCollect s x b → 1 ≤ weight s
+collecting_costs s x b can = let lighter = forgotten_lighter s x b can in omega (arith, lighter)
 
 pub forgetting_settles : (s t : State) (x b : ℕ) → CanCollect s x b → length ((s.bucket b).rows x) ≤ 0 → forget s x b ≡ Ok t → Settles s t x b 1 1
 forgetting_settles s t x b can none h =

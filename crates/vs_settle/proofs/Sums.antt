@@ -1,5 +1,5 @@
 -- Sums over the numbers from 1 to n: how they change where one of them changes.
-use Rattle.std.proofs.Common.{◌≡◌, ℕ, zero, suc, inl, inr, ◌+◌, ◌*◌, ◌≤◌, refl, ap, sym, arith}
+use Rattle.std.proofs.Common.{◌≡◌, ℕ, zero, suc, inl, inr, ◌+◌, ◌*◌, ◌≤◌, refl, ap, sym, subst, arith}
 use Rattle.std.specs.Prelude.{◌≢◌, ◌⊎◌}
 use Rattle.vs_machine.specs.Tables.{sum_to}
 use Rattle.vs_settle.specs.Weight.{sum_over}
@@ -33,6 +33,29 @@ sum_le f g zero le = omega arith
 sum_le f g (suc n) le =
     let rest : sum_to f n ≤ sum_to g n = sum_le f g n (λ k from to. le k from (omega (arith, to))) in
     let last : f (suc n) ≤ g (suc n) = le (suc n) (omega arith) (omega arith) in
+    omega (arith, rest, last)
+
+-- one is less, and none is more
+pub sum_less : (f g : ℕ → ℕ) (n k : ℕ) → 1 ≤ k → k ≤ n → f k + 1 ≤ g k → ((j : ℕ) → f j ≤ g j) → sum_to f n + 1 ≤ sum_to g n
+sum_less f g zero k from to less le = absurd (omega (arith, from, to))
+sum_less f g (suc n) k from to less le = by (λ below. sum_less f g n k from below less le) (last_or k n to)
+  where
+    by : (k ≤ n → sum_to f n + 1 ≤ sum_to g n) → (k ≡ suc n) ⊎ (k ≤ n) → sum_to f (suc n) + 1 ≤ sum_to g (suc n)
+    by earlier (inl is) =
+        let rest : sum_to f n ≤ sum_to g n = sum_le f g n (λ j a b. le j) in
+        let last : f (suc n) + 1 ≤ g (suc n) = subst (λ (j : ℕ). f j + 1 ≤ g j) is less in
+        omega (arith, rest, last)
+    by earlier (inr below) =
+        let rest : sum_to f n + 1 ≤ sum_to g n = earlier below in
+        let last : f (suc n) ≤ g (suc n) = le (suc n) in
+        omega (arith, rest, last)
+
+-- with at most one more of each
+pub sum_ones : (f g : ℕ → ℕ) (n : ℕ) → ((k : ℕ) → f k ≤ 1 + g k) → sum_to f n ≤ n + sum_to g n
+sum_ones f g zero le = omega arith
+sum_ones f g (suc n) le =
+    let rest : sum_to f n ≤ n + sum_to g n = sum_ones f g n le in
+    let last : f (suc n) ≤ 1 + g (suc n) = le (suc n) in
     omega (arith, rest, last)
 
 pub sum_scale : (f g : ℕ → ℕ) (c n : ℕ) → ((k : ℕ) → f k ≤ c * g k) → sum_to f n ≤ c * sum_to g n

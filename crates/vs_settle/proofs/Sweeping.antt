@@ -72,7 +72,7 @@ sweeping_ends p q m n b k i e some all = record { paid = e.paid; silent = e.sile
     by : (y : ℕ) (t : Bool) → is_to (sets_of (state_of q)) y ≡ t → rank (((state_of q).bucket b).entry y) < k
     by y true is =
         let y_in = within (sets_of (state_of q)) y is in
-        let same : sets_of (state_of q) ≡ sets_of (state_of p) = ap (λ (c : Configuration). length c.sets) e.follows.config in
+        let same : sets_of (state_of q) ≡ sets_of (state_of p) = ap (λ (c : Configuration). length c.sets) e.follows.carries.config in
         e.swept y y_in.0 (omega (arith, y_in.1, same, all))
     by y false is =
         let none : rank (((state_of q).bucket b).entry y) ≡ 0 = rank_outside (state_of q) b y e.follows.rests (λ h. absurd (cc (is_within (sets_of (state_of q)) y h.0 h.1, is))) in
@@ -115,7 +115,7 @@ placing_goes_on p q r m n l i e f d =
 pub placing_ends : (p q : Played) (m n i : ℕ) → Placing p m q n i → (state_of p).config.bucket_count ≤ i → (b y : ℕ) → has_bucket (state_of q) b ≡ true → rank (((state_of q).bucket b).entry y) < 1
 placing_ends p q m n i e all b y known =
     let b_in = within (state_of q).config.bucket_count b known in
-    let same : (state_of q).config.bucket_count ≡ (state_of p).config.bucket_count = ap (λ (c : Configuration). c.bucket_count) e.follows.config in
+    let same : (state_of q).config.bucket_count ≡ (state_of p).config.bucket_count = ap (λ (c : Configuration). c.bucket_count) e.follows.carries.config in
     e.placed b y b_in.0 (omega (arith, b_in.1, same, all))
 
 pub level_some : (t : Task) → 1 ≤ level t

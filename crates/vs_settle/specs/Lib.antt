@@ -1,6 +1,9 @@
+pub mod Causes
 pub mod Messages
 pub mod Quiet
+pub mod Raised
 pub mod Service
+pub mod Stopped
 pub mod Tasks
 pub mod Weight
 pub use Rattle.vs_world.specs.Played

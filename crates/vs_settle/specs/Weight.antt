@@ -6,6 +6,7 @@ use Rattle.vs_space.specs.declared.status.Status.{Status}
 use Rattle.vs_space.specs.declared.status.Status.TheVariants.{Active, Pinned, Sending, Receiving, Sent, Garbage}
 use Rattle.vs_link.specs.Connection.{Connection}
 use Rattle.vs_machine.specs.Tables.{sum_to}
+use Rattle.vs_machine.specs.Settling.{cost_at, messages_of}
 use Rattle.vs_machine.specs.State.{State, Bucket, sets_of}
 
 -- a message is taken and its reply is heard, a reply is heard
@@ -46,3 +47,17 @@ prices buckets n m = sum_over (price_at buckets) n m
 -- what lies on the connections, and what the entries cost
 unfoldable pub weight : State → ℕ
 weight s = loads s.link (sets_of s) + prices s.bucket (sets_of s) s.config.bucket_count
+
+-- ---- where sets are down
+
+-- a set that is down is started again
+abbrev pub down_at : State → ℕ → ℕ
+down_at s x = if s.up x then 0 else 1
+
+-- the starts of a set, and what its entries cost
+abbrev pub due_at : State → ℕ → ℕ
+due_at s x = down_at s x + sum_to (cost_at s x) s.config.bucket_count
+
+-- the starts of the sets that are down, what lies on the connections, and what the entries cost
+unfoldable pub due : State → ℕ
+due s = 2 * messages_of s + sum_to (due_at s) (sets_of s)

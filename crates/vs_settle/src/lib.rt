@@ -3,12 +3,15 @@
 
 mod carrying;
 mod entries;
+mod fault;
 mod laws;
 mod messages;
+mod raising;
 mod reads;
 mod service;
 mod steps;
 
+pub use fault::SettleFault;
 pub use laws::finished_is_quiet;
-pub use service::{can_settle, settle};
+pub use service::settle;
 pub use steps::Steps;

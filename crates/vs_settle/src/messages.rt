@@ -1,33 +1,37 @@
 //! All messages are taken, and all replies heard.
 
-ghost use Rattle.std.specs.Prelude.{◌≡◌, ◌≤◌, ◌+◌, true, OnOk};
+ghost use Rattle.std.specs.Prelude.{◌≡◌, ◌≤◌, ◌+◌, true, IfErr, OnOk};
 ghost use Rattle.vs_machine.specs.State.{has_set, sets_of};
 ghost use Rattle.vs_machine.specs.Settling.{IsSilent};
 ghost use Rattle.vs_world.specs.Played.{state_of};
 ghost use Rattle.vs_settle.specs.Messages.{AreDrained, IsDrained};
-ghost use Rattle.vs_settle.specs.Service.{Follows, IsPaid, IsResting};
+ghost use Rattle.vs_settle.specs.Service.{IsPaid, IsResting};
+ghost use Rattle.vs_settle.specs.Stopped.{Goes, IsStopped};
 ghost use Rattle.vs_settle.specs.Weight.{weight};
 
 use crate::carrying::carry_out;
+use crate::fault::SettleFault;
 use crate::reads::{know, next_message, set_count};
 use crate::steps::Steps;
 use std::sync::ledger::Ledger;
-use vs_base::{NoMemory, SetNo};
+use vs_base::SetNo;
+use vs_disk::Disk;
 use vs_world::World;
 
 /// The messages from a set to another are taken, and the replies heard. No message comes of them.
-fn drain<L: Ledger>(
-    world: &mut World,
+fn drain<D: Disk + Drop, L: Ledger>(
+    world: &mut World<D>,
     steps: &mut Steps<L>,
     from: SetNo,
     to: SetNo,
-) -> Result<(), NoMemory>
-    requires rests { IsResting (state_of world.old) }
-    requires from { has_set (state_of world.old) from ≡ true }
-    requires to { has_set (state_of world.old) to ≡ true }
-    ensures follows { Follows world.old steps.old world.new steps.new }
-    ensures spent { steps.new ≤ steps.old + weight (state_of world.old) }
-    ensures drained { OnOk result (IsDrained world.old steps.old world.new steps.new from to) }
+) -> Result<(), SettleFault>
+    requires rests { IsResting (state_of world.old.played) }
+    requires from { has_set (state_of world.old.played) from ≡ true }
+    requires to { has_set (state_of world.old.played) to ≡ true }
+    ensures goes { OnOk result (Goes D.told world.old steps.old world.new steps.new) }
+    ensures stops { IfErr result (IsStopped D.told world.old steps.old world.new steps.new) }
+    ensures spent { steps.new ≤ steps.old + weight (state_of world.old.played) }
+    ensures drained { OnOk result (IsDrained world.old.played steps.old world.new.played steps.new from to) }
 {
     while let Some(event) = next_message(world, from, to) {
         carry_out(world, steps, event)?;
@@ -36,19 +40,20 @@ fn drain<L: Ledger>(
 }
 
 /// The same for all connections from a set of a cluster of so many.
-fn drain_from<L: Ledger>(
-    world: &mut World,
+fn drain_from<D: Disk + Drop, L: Ledger>(
+    world: &mut World<D>,
     steps: &mut Steps<L>,
     from: SetNo,
     count: u8,
-) -> Result<(), NoMemory>
-    requires rests { IsResting (state_of world.old) }
-    requires from { has_set (state_of world.old) from ≡ true }
-    requires count { sets_of (state_of world.old) ≡ count }
+) -> Result<(), SettleFault>
+    requires rests { IsResting (state_of world.old.played) }
+    requires from { has_set (state_of world.old.played) from ≡ true }
+    requires count { sets_of (state_of world.old.played) ≡ count }
     requires few { count ≤ 32 }
-    ensures follows { Follows world.old steps.old world.new steps.new }
-    ensures spent { steps.new ≤ steps.old + weight (state_of world.old) }
-    ensures drained { OnOk result (AreDrained world.old steps.old world.new steps.new from) }
+    ensures goes { OnOk result (Goes D.told world.old steps.old world.new steps.new) }
+    ensures stops { IfErr result (IsStopped D.told world.old steps.old world.new steps.new) }
+    ensures spent { steps.new ≤ steps.old + weight (state_of world.old.played) }
+    ensures drained { OnOk result (AreDrained world.old.played steps.old world.new.played steps.new from) }
 {
     for index in 0..count {
         let Some(to) = SetNo::new(index + 1) else {
@@ -60,15 +65,16 @@ fn drain_from<L: Ledger>(
 }
 
 /// All messages are taken, and all replies heard. A reply may still decide where a bucket is.
-pub(crate) fn settle_messages<L: Ledger>(
-    world: &mut World,
+pub(crate) fn settle_messages<D: Disk + Drop, L: Ledger>(
+    world: &mut World<D>,
     steps: &mut Steps<L>,
-) -> Result<(), NoMemory>
-    requires rests { IsResting (state_of world.old) }
-    ensures follows { Follows world.old steps.old world.new steps.new }
-    ensures spent { steps.new ≤ steps.old + weight (state_of world.old) }
-    ensures paid { OnOk result (IsPaid world.old steps.old world.new steps.new) }
-    ensures silent { OnOk result (IsSilent (state_of world.new)) }
+) -> Result<(), SettleFault>
+    requires rests { IsResting (state_of world.old.played) }
+    ensures goes { OnOk result (Goes D.told world.old steps.old world.new steps.new) }
+    ensures stops { IfErr result (IsStopped D.told world.old steps.old world.new steps.new) }
+    ensures spent { steps.new ≤ steps.old + weight (state_of world.old.played) }
+    ensures paid { OnOk result (IsPaid world.old.played steps.old world.new.played steps.new) }
+    ensures silent { OnOk result (IsSilent (state_of world.new.played)) }
 {
     let count = set_count(world);
     for index in 0..count {

@@ -3,39 +3,41 @@
 ghost use Rattle.std.specs.Prelude.{◌≡◌, ◌≢◌, ◌≤◌, ℕ, false, length, MatchOption};
 ghost use Rattle.vs_link.specs.Connection.{unused};
 ghost use Rattle.vs_machine.specs.Kinds.Collection.{is_garbage, is_sent};
-ghost use Rattle.vs_machine.specs.Kinds.Stops.{is_finished};
 ghost use Rattle.vs_machine.specs.Runs.{IsReached};
 ghost use Rattle.vs_machine.specs.State.{is_link, sets_of};
 ghost use Rattle.vs_machine.specs.Settling.{HasNoMessage};
 ghost use Rattle.vs_world.specs.Played.{state_of};
+ghost use Rattle.vs_world.specs.World.{IsKept};
 ghost use Rattle.vs_settle.specs.Messages.{IsOnLine};
 ghost use Rattle.vs_settle.specs.Tasks.{receiver_in, sender_in};
 
 use vs_base::{BucketId, SetNo};
+use vs_disk::Disk;
 use vs_event::Event;
 use vs_machine::given_inputs;
 use vs_space::Status;
 use vs_world::World;
 
-/// What is known of every cluster: a run reached its state, and there are connections only between its sets.
-pub(crate) fn know(world: &World)
-    ensures reached { IsReached (state_of world.now) }
-    ensures lines { (x y : ℕ) → is_link (state_of world.now) x y ≡ false → (state_of world.now).link x y ≡ unused }
+/// What is known of every cluster: a run reached its state, its disks fit it, and there are connections only between its sets.
+pub(crate) fn know<D: Disk + Drop>(world: &World<D>)
+    ensures reached { IsReached (state_of world.now.played) }
+    ensures kept { IsKept D.told world.now }
+    ensures lines { (x y : ℕ) → is_link (state_of world.now.played) x y ≡ false → (state_of world.now.played).link x y ≡ unused }
 {
     let _state = world.core().state();
 }
 
 /// How many sets there are.
-pub(crate) fn set_count(world: &World) -> u8
-    ensures count { result ≡ sets_of (state_of world.now) }
+pub(crate) fn set_count<D: Disk + Drop>(world: &World<D>) -> u8
+    ensures count { result ≡ sets_of (state_of world.now.played) }
     ensures few { result ≤ 32 }
 {
     world.core().state().set_count()
 }
 
 /// How many buckets there are.
-pub(crate) fn bucket_count(world: &World) -> u32
-    ensures count { result ≡ (state_of world.now).config.bucket_count }
+pub(crate) fn bucket_count<D: Disk + Drop>(world: &World<D>) -> u32
+    ensures count { result ≡ (state_of world.now.played).config.bucket_count }
     ensures few { result ≤ 30000 }
 {
     given_inputs();
@@ -43,22 +45,19 @@ pub(crate) fn bucket_count(world: &World) -> u32
 }
 
 /// Whether a set is up.
-pub(crate) fn is_up(world: &World, set: SetNo) -> bool
-    ensures { result ≡ (state_of world.now).up set }
+pub(crate) fn is_up<D: Disk + Drop>(world: &World<D>, set: SetNo) -> bool
+    ensures { result ≡ (state_of world.now.played).up set }
 {
     world.core().state().up(set)
 }
 
-/// Whether every call and every command is answered.
-pub(crate) fn is_finished(world: &World) -> bool
-    ensures { result ≡ is_finished (state_of world.now) }
-{
-    world.core().state().is_finished()
-}
-
 /// The status of a bucket at a set.
-pub(crate) fn entry(world: &World, set: SetNo, bucket: BucketId) -> Option<Status>
-    ensures { result ≡ ((state_of world.now).bucket bucket).entry set }
+pub(crate) fn entry<D: Disk + Drop>(
+    world: &World<D>,
+    set: SetNo,
+    bucket: BucketId,
+) -> Option<Status>
+    ensures { result ≡ ((state_of world.now.played).bucket bucket).entry set }
 {
     world.core().state().entry(set, bucket)
 }
@@ -98,16 +97,20 @@ pub(crate) fn is_garbage(entry: &Option<Status>) -> bool
 }
 
 /// How many rows of a bucket a set has.
-pub(crate) fn row_count(world: &World, set: SetNo, bucket: BucketId) -> u64
-    ensures { result ≡ length (((state_of world.now).bucket bucket).rows set) }
+pub(crate) fn row_count<D: Disk + Drop>(world: &World<D>, set: SetNo, bucket: BucketId) -> u64
+    ensures { result ≡ length (((state_of world.now.played).bucket bucket).rows set) }
 {
     world.core().state().row_count(set, bucket)
 }
 
 /// The event by which the first message between two sets is taken, or the first reply heard, if there is one.
-pub(crate) fn next_message(world: &World, from: SetNo, to: SetNo) -> Option<Event>
-    ensures { MatchOption result (HasNoMessage (state_of world.now) from to)
-        (λ event. IsOnLine (state_of world.now) from to event) }
+pub(crate) fn next_message<D: Disk + Drop>(
+    world: &World<D>,
+    from: SetNo,
+    to: SetNo,
+) -> Option<Event>
+    ensures { MatchOption result (HasNoMessage (state_of world.now.played) from to)
+        (λ event. IsOnLine (state_of world.now.played) from to event) }
 {
     let state = world.core().state();
     if state.head_call(from, to).is_some() {

@@ -1,5 +1,5 @@
 -- What a store holds, before and after its calls.
-use Rattle.std.proofs.Common.{◌≡◌, ◌⊎◌, ⊎_elim, inl, inr, ℕ, ◌+◌, Bool, true, false, List, [], ◌∷◌, length, Option, Some, None, Result, Ok, if◌then◌else◌, refl, sym, ap, subst, ◌∙◌, arith, length-append}
+use Rattle.std.proofs.Common.{◌≡◌, ◌⊎◌, ⊎_elim, inl, inr, ℕ, ◌+◌, Bool, true, false, List, [], ◌∷◌, length, Option, Some, None, Result, Ok, if◌then◌else◌, IsTrue, refl, sym, ap, subst, ◌∙◌, arith, length-append}
 use Rattle.std.proofs.lemmas.Bool.{true≢false}
 use Rattle.vs_disk.specs.declared.disk.Disk.{Ghosts}
 use Rattle.vs_disk.specs.Told.{Reads, Leaves, IsSynced}
@@ -17,7 +17,7 @@ use Rattle.vs_store.specs.declared.store.Store.{Store}
 use Rattle.vs_store.specs.Files.{StandsFor, StandsForSome, FitsFile, taken}
 use Rattle.vs_store.specs.Holding.{counted, IsHere, IsLevel, IsTried, Speaks, Knows, Holds, Accepts}
 use Rattle.vs_store.specs.Standing.{Standing, state_of, folded_in, of_set, next_number, after, entry_len}
-use Rattle.vs_store.specs.Store.{told_of, IsReady, HasFound}
+use Rattle.vs_store.specs.Store.{disk_of, told_of, IsReady, IsCalm, HasFound}
 use Rattle.vs_store.proofs.Told.{synced_leaves, unwritten_leaves, unwritten_reads}
 use Rattle.vs_store.proofs.Standings.{parts, is_journal, stands, same_journal, after_made, old_or_after, entry_is, stands_for, count_is}
 
@@ -390,3 +390,46 @@ module _ {D : Type 0} {disk : Ghosts D} (old : Store D disk) (head : Head) (d : 
         by : (state_of f ≡ Ok x.was) ⊎ (state_of f ≡ Ok (after x.was c)) → Knows new head d (Some c) f
         by (inl stood) = record { now = x.was; here = here x.was stood x.version; own = x.own; tried = inr (x.was, c, tried_after x.was (inl refl), (refl, x.state)) }
         by (inr stood) = record { now = after x.was c; here = here (after x.was c) stood x.version; own = x.own; tried = inr (x.was, c, tried_after (after x.was c) (inr refl), (refl, x.state)) }
+
+-- ---- an append that is forgotten
+
+module _ {D : Type 0} {disk : Ghosts D} (old new : Store D disk) (ready : IsReady old) (same : disk_of new ≡ disk_of old) (gate : gate_of new.frame ≡ gate_of old.frame)
+    (none : next_of new.frame ≡ last_of new.frame) (level : last_of new.frame ≡ gate_of new.frame) (count : new.count ≡ counted old) (has_last : new.has_last ≡ false) where
+  counted_now : counted new ≡ counted old
+  counted_now = ap (λ (b : Bool). if b then new.count + 1 else new.count) has_last ∙ count
+
+  forgotten_knows : (head : Head) (d : Durable) (file : List ℕ) → Knows old head d None file → Knows new head d None file
+  forgotten_knows head d file k = record {
+    now = k.now;
+    here = record { stands = k.here.stands; version = k.here.version; gate = λ r. k.here.gate ready ∙ sym gate; count = λ r. k.here.count ready ∙ sym counted_now };
+    own = k.own;
+    tried = inl (record { next = none; gate = k.here.gate ready ∙ sym gate ∙ sym level; count = k.here.count ready ∙ sym count }, state_is old head d file k);
+  }
+
+  pub forgotten : (head : Head) (d : Durable) → Holds old head d None → Holds new head d None
+  forgotten head d h = record {
+    stands = subst (λ (e : D). Reads (disk.told e) (StandsForSome head d None)) (sym same) h.stands;
+    leaves = subst (λ (e : D). Leaves (disk.told e) (StandsForSome head d None)) (sym same) h.leaves;
+    knows = λ tells. subst (λ (e : D). Knows new head d None (disk.told e).reads_as) (sym same) (forgotten_knows head d (told_of old).reads_as (h.knows (subst (λ (e : D). IsTrue (disk.told e).tells_reads) same tells)));
+  }
+
+-- where there is nothing to forget, a change may be pending that isn't there
+module _ {D : Type 0} {disk : Ghosts D} (store : Store D disk) (head : Head) (d : Durable) (c : Change) (calm : IsCalm store) where
+  not_tried : (file : List ℕ) (now was : Standing) (c : Change) → IsTried store file now was c → ⊥
+  unfolding entry_len
+  not_tried file now was c t = omega (arith, calm, t.next)
+
+  awaits_knows : (file : List ℕ) → Knows store head d None file → Knows store head d (Some c) file
+  awaits_knows file k = record {
+    now = k.now;
+    here = k.here;
+    own = k.own;
+    tried = ⊎_elim (λ l. inl l) (λ (t : (was : Standing) × (other : Change) × IsTried store file k.now was other × Speaks was other k.now d None). absurd (not_tried file k.now t.0 t.1 t.2)) k.tried;
+  }
+
+  pub calm_awaits : Holds store head d None → Holds store head d (Some c)
+  calm_awaits h = record {
+    stands = λ tells. inl (h.stands tells);
+    leaves = λ honest file left. inl (h.leaves honest file left);
+    knows = λ tells. awaits_knows (told_of store).reads_as (h.knows tells);
+  }

@@ -1,3 +1,4 @@
+pub mod Buckets
 pub mod Folding
 pub mod Holding
 pub mod Meaning

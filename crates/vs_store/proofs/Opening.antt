@@ -59,6 +59,7 @@ module _ (a b : Told) (u : IsUnwritten a b) (head : Head) where
   opened_after limit store d x = record {
     holds = x.holds;
     ready = x.ready;
+    calm = x.calm;
     limit_is = x.limit_is;
     disk = disk_after (told_of store) x.disk;
     taken_over = λ tells some. subst (λ (f : List ℕ). IsOkAnd (opened head f) (IsTakenOver head limit d (told_of store).reads_as)) (u.reads tells) (x.taken_over (now_tells tells) (now_some tells some));
@@ -235,6 +236,7 @@ upgraded_opened store head limit a d laws synced ready limit_is last next level 
       let x = upgraded (sym on.keeps.reads ∙ still) in
       level_knows store head d (told_of store).reads_as (in_version_2 x.from) x.now x.version x.gate_is x.count_is last next level x.own x.state);
   ready = ready;
+  calm = next;
   limit_is = limit_is;
   disk = on;
   taken_over = λ tells there.
@@ -251,6 +253,7 @@ fresh_opened store head limit a d laws synced ready limit_is last count next lev
   holds = holds_synced store head d None laws synced
       (λ still. level_knows store head d (told_of store).reads_as (fresh head) (fresh_is head (told_of store).reads_as (journal still)) refl (sym gate) (sym count) last next level (own_head head) (sym state));
   ready = ready;
+  calm = next;
   limit_is = limit_is;
   disk = record {
     keeps = keeps;

@@ -13,7 +13,7 @@ use Rattle.vs_store.specs.Faults.{IsRefusal}
 use Rattle.vs_store.specs.Files.{StandsFor}
 use Rattle.vs_store.specs.Holding.{Holds}
 use Rattle.vs_store.specs.Standing.{Standing, opened, fresh, in_version_2}
-use Rattle.vs_store.specs.Store.{told_of, limit_of, IsReady}
+use Rattle.vs_store.specs.Store.{told_of, limit_of, IsReady, IsCalm}
 
 -- ---- the disk
 
@@ -67,6 +67,7 @@ pub record IsFresh (head : Head) (d : Durable) (new : List ℕ) : Type 0 where
 pub record IsOpened {D : Type 0} {ghosts : Ghosts D} (head : Head) (limit : ℕ) (old : Told) (store : Store D ghosts) (d : Durable) : Type 0 where
   pub holds : Holds store head d None
   pub ready : IsReady store
+  pub calm : IsCalm store
   pub limit_is : limit_of store ≡ limit
   pub disk : IsOpenedDisk head old (told_of store)
   pub taken_over : Reads old (λ file. file ≢ [] → IsOkAnd (opened head file) (IsTakenOver head limit d (told_of store).reads_as))

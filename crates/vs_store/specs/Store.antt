@@ -1,5 +1,5 @@
 -- What a store shows.
-use Rattle.std.specs.Prelude.{ℕ, ◌+◌}
+use Rattle.std.specs.Prelude.{◌≡◌, ℕ, ◌+◌}
 use Rattle.vs_disk.specs.declared.disk.Disk.{Ghosts}
 use Rattle.vs_disk.specs.Told.{Told}
 use Rattle.vs_frame.specs.Frame as frame
@@ -32,6 +32,10 @@ IsReady store = frame.IsReady store.frame
 
 abbrev pub MustReopen : {D : Type 0} {disk : Ghosts D} → Store D disk → Type 0
 MustReopen store = frame.MustReopen store.frame
+
+-- no append failed since one that answered Ok, but for one that was forgotten
+abbrev pub IsCalm : {D : Type 0} {disk : Ghosts D} → Store D disk → Type 0
+IsCalm store = frame.next_of store.frame ≡ frame.last_of store.frame
 
 -- the last reopening found the change of the append that failed, and no append has answered Ok since
 abbrev pub HasFound : {D : Type 0} {disk : Ghosts D} → Store D disk → Type 0

@@ -7,7 +7,7 @@ ghost use Rattle.vs_frame.specs.Head.{IsHead};
 ghost use Rattle.vs_frame.specs.Journal.{begun};
 ghost use Rattle.vs_frame.specs.Scan.{told_under, version_under, part_of, place_of, last_body, MayGoOn, HasBody, IsDone, HasRead};
 ghost use Rattle.vs_frame.specs.Unwritten.{IsUnwritten};
-ghost use Rattle.vs_record.specs.States.{durable};
+ghost use Rattle.vs_record.specs.States.{durable, IsOfBuckets};
 ghost use Rattle.vs_store.specs.Faults.{Gives, IsOfReading, IsRefusal};
 ghost use Rattle.vs_store.specs.Replay.{number_in, count_in, IsReadAs};
 ghost use Rattle.vs_store.specs.Standing.{stepped, change_with, state_of, of_set, opened};
@@ -90,6 +90,7 @@ fn replay<D: Disk + Drop>(
     requires begun { HasRead scan.old (begun head.now (version_under scan.old)) }
     ensures done { OnOk result (IsDone scan.new) }
     ensures few { IfOk result (λ r. r.1 + 36 ≤ place_of scan.new) }
+    ensures within { IfOk result (λ r. IsOfBuckets head.now.bucket_count r.0) }
     ensures stands { IfOk result (λ r. Reads (told_under scan.old) (λ file.
         IsOkAnd (state_of file) (λ s. IsReadAs (place_of scan.new) r.1 (version_under scan.old)
         (durable r.0) s × (s.journal.head ≡ head.now)))) }
@@ -135,6 +136,7 @@ pub fn read_set<D: Disk + Drop>(
     requires begun { HasRead scan.old (begun found.now (version_under scan.old)) }
     ensures done { OnOk result (IsDone scan.new) }
     ensures few { IfOk result (λ r. r.1 + 36 ≤ place_of scan.new) }
+    ensures within { IfOk result (λ r. IsOfBuckets head.now.bucket_count r.0) }
     ensures opened { IfOk result (λ r. Reads (told_under scan.old) (λ file.
         IsOkAnd (opened head.now file) (IsReadAs (place_of scan.new) r.1 (version_under scan.old)
         (durable r.0)))) }

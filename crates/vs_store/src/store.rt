@@ -39,7 +39,7 @@ impl<D: Disk + Drop> Store<D> {
     ghost use Rattle.vs_record.specs.Change as plain;
     ghost use Rattle.vs_record.specs.Change.{change as plain_of};
     ghost use Rattle.vs_record.specs.Durable.{Durable, applied};
-    ghost use Rattle.vs_record.specs.States.{durable};
+    ghost use Rattle.vs_record.specs.States.{durable, IsOfBuckets};
     ghost use Rattle.std.specs.Prelude.{Option};
     ghost use Rattle.vs_frame.specs.declared.head.Head as head;
     ghost use Rattle.vs_store.specs.Faults.{IsOfAppend};
@@ -47,7 +47,7 @@ impl<D: Disk + Drop> Store<D> {
     ghost use Rattle.vs_store.specs.Holding.{Holds, StillHolds, Accepts, counted};
     ghost use Rattle.vs_store.specs.Opening.{LeavesSame, IsOpened, IsNotOpened};
     ghost use Rattle.vs_store.specs.Standing.{entry_len};
-    ghost use Rattle.vs_store.specs.Store.{disk_of, told_of, limit_of, length_of, length_with, IsReady, MustReopen, HasFound};
+    ghost use Rattle.vs_store.specs.Store.{disk_of, told_of, limit_of, length_of, length_with, IsReady, IsCalm, MustReopen, HasFound};
 
     /// Opens the journal of a set, and gives the state that it stands for. A disk of length 0 is
     /// made a new journal with this head; after a refusal it may hold one, or a part of one. A
@@ -63,6 +63,10 @@ impl<D: Disk + Drop> Store<D> {
         requires limit { 38 ≤ limit }
         ensures opened { IfOk result (λ r.
             IsOpened head.now limit (D.told disk) r.0 (durable r.1)) }
+
+        // No state has anything of a bucket above the count, whatever the disk tells.
+        ensures within { IfOk result (λ r. IsOfBuckets head.now.bucket_count r.1) }
+
         ensures refused { IfErr result (λ e.
             IsNotOpened head.now limit (D.told disk) e.0 (D.told e.1)) }
 
@@ -98,6 +102,7 @@ impl<D: Disk + Drop> Store<D> {
         requires none { Reads (D.told disk) (λ file. file ≡ []) }
         ensures opened { IfOk result (λ r.
             IsOpened head.now limit (D.told disk) r.0 (durable r.1)) }
+        ensures within { IfOk result (λ r. IsOfBuckets head.now.bucket_count r.1) }
         ensures refused { IfErr result (λ e.
             IsNotOpened head.now limit (D.told disk) e.0 (D.told e.1)) }
     {
@@ -129,6 +134,7 @@ impl<D: Disk + Drop> Store<D> {
         requires some { Reads (D.told disk) (λ file. file ≢ []) }
         ensures opened { IfOk result (λ r.
             IsOpened head.now limit (D.told disk) r.0 (durable r.1)) }
+        ensures within { IfOk result (λ r. IsOfBuckets head.now.bucket_count r.1) }
         ensures refused { IfErr result (λ e.
             IsNotOpened head.now limit (D.told disk) e.0 (D.told e.1)) }
     {
@@ -152,6 +158,7 @@ impl<D: Disk + Drop> Store<D> {
         requires some { Reads (told_under scan) (λ file. file ≢ []) }
         ensures opened { IfOk result (λ r.
             IsOpened head.now limit (told_under scan) r.0 (durable r.1)) }
+        ensures within { IfOk result (λ r. IsOfBuckets head.now.bucket_count r.1) }
         ensures refused { IfErr result (λ e.
             IsNotOpened head.now limit (told_under scan) e.0 (D.told e.1)) }
     {
@@ -214,6 +221,9 @@ impl<D: Disk + Drop> Store<D> {
             → (len ≡ length_with self.old (plain_of change.now)) × (limit_of self.old < len)
             × (self.new ≡ self.old) }
         ensures room { OnOk result (length_with self.old (plain_of change.now) ≤ limit_of self.old) }
+        ensures calm { OnOk result (IsCalm self.new) }
+        ensures still_calm { IfErr result (λ e. e ≢ StoreFault.DiskFault
+            → IsCalm self.old → IsCalm self.new) }
         ensures fault { IsErrOf result StoreFault.DiskFault → Failed (told_of self.old) (told_of self.new)
             × (length_with self.old (plain_of change.now) ≤ limit_of self.old) }
         ensures pending { IsErrOf result StoreFault.DiskFault
@@ -268,6 +278,11 @@ impl<D: Disk + Drop> Store<D> {
         // What the store held it still holds.
         ensures still { StillHolds self.old self.new }
 
+        // After false there is nothing to forget, and where there was nothing it answers false.
+        ensures calm { IfOk result (λ found. found ≡ false → IsCalm self.new) }
+        ensures still_calm { IsCalm self.old → IsCalm self.new }
+        ensures none { IsCalm self.old → IfOk result (λ found. found ≡ false) }
+
         ensures unwritten { IsUnwritten (told_of self.old) (told_of self.new) }
         ensures fault { OnErr result (Failed (told_of self.old) (told_of self.new)) }
         ensures cause { IfErr result (λ e. (e ≡ StoreFault.DiskFault) × MustReopen self.new) }
@@ -303,6 +318,23 @@ impl<D: Disk + Drop> Store<D> {
         self.has_last = false;
         self.frame.drop_last()?;
         Ok(())
+    }
+
+    /// Forgets the append that failed: what the journal has up to its gate is all, and a further
+    /// `reopen` answers false. It does nothing with the disk, and takes no memory.
+    pub fn forget_last(&mut self)
+        requires ready { IsReady self.old }
+        ensures ready { IsReady self.new }
+        ensures calm { IsCalm self.new }
+        ensures held { (head : head.Head) (d : Durable) → Holds self.old head d None
+            → Holds self.new head d None }
+        ensures length { length_of self.new ≡ length_of self.old }
+        ensures disk { disk_of self.new ≡ disk_of self.old }
+        ensures limit { limit_of self.new ≡ limit_of self.old }
+    {
+        self.count = self.next_number() - 1;
+        self.has_last = false;
+        self.frame.forget_last();
     }
 
     /// The length of the journal, in bytes, with the gate that ends it. A change that is pending

@@ -1,17 +1,24 @@
 -- What a call of one store makes of the list of all.
-use Rattle.std.proofs.Common.{◌≡◌, ◌≢◌, ⊎_elim, ℕ, suc, ◌<◌, ◌≤◌, ◌+◌, Bool, true, false, ◌==◌, if◌then◌else◌, List, [], ◌∷◌, ◌++◌, length, Option, Some, Result, Ok, Err, get_or, refl, sym, ap, subst, ◌∙◌, arith}
+use Rattle.std.proofs.Common.{◌≡◌, ◌≢◌, ⊎_elim, ℕ, suc, ◌<◌, ◌≤◌, ◌+◌, Bool, true, false, ◌==◌, if◌then◌else◌, List, [], ◌∷◌, ◌++◌, length, Option, Some, None, Result, Ok, Err, get_or, refl, sym, ap, subst, ◌∙◌, arith}
 use Rattle.std.specs.Prelude.{slice_get, slice_set, OnOk, OnErr}
 use Rattle.std.specs.Option.{option_map_or}
+use Rattle.std.proofs.lemmas.Bool.{cases_eq}
 use Rattle.std.proofs.lemmas.Bool.Decides.{Decides-eqb}
 use Rattle.std.proofs.lemmas.List.{length-set}
 use Rattle.std.proofs.lemmas.Option.{slice_get_read}
 use Rattle.vs_disk.specs.declared.disk.Disk.{Ghosts}
 use Rattle.vs_record.specs.Durable.{put}
-use Rattle.vs_store.specs.Store.{told_of, limit_of, length_of}
+use Rattle.vs_disk.specs.Told.{Told}
+use Rattle.vs_record.specs.Change.{Change}
+use Rattle.vs_store.specs.Holding.{Holds}
+use Rattle.vs_store.proofs.Holding.{calm_awaits}
+use Rattle.vs_store.specs.Store.{disk_of, told_of, limit_of, length_of}
 use Rattle.vs_store.specs.declared.store.Store.{Store}
-use Rattle.vs_stores.specs.Due.{Due, HoldsDue}
+use Rattle.vs_stores.specs.Due.{Due, HoldsDue, awaiting}
 use Rattle.vs_stores.specs.Limits.{HaveLimit}
 use Rattle.vs_stores.specs.Numbered.{at_number}
+use Rattle.vs_stores.specs.Stores.{stores_of, AllHold, IsCalmAt}
+use Rattle.vs_stores.specs.declared.stores.Stores.{Stores}
 use Rattle.vs_stores.proofs.Lists.{some_is, set_same, each_set, at_number_other, pushed}
 
 not_eq : (a b : ℕ) → (a ≡ b → ⊥) → (a == b) ≡ false
@@ -95,6 +102,20 @@ module _ {D : Type 0} {disk : Ghosts D} (stores : List (Store D disk)) (x i : �
 
     pub others_now : (y : ℕ) → y ≢ x → at_number (slice_set stores i is) y ≡ at_number stores y
     others_now y ne = at_number_other stores i is y (λ e. ne (e ∙ suc_is))
+
+-- a disk that is the same tells the same
+pub same_told : {D : Type 0} {disk : Ghosts D} (old new : Store D disk) → disk_of new ≡ disk_of old → (P : Told → Type 0) → P (told_of old) → P (told_of new)
+same_told {D = D} {disk = disk} old new same P p = subst (λ (d : D). P (disk.told d)) (sym same) p
+
+-- where nothing is left to forget, a change may be pending that isn't there
+pub all_await : {D : Type 0} {disk : Ghosts D} (all : Stores D disk) (due : ℕ → Due) (x : ℕ) (c : Change) → IsCalmAt all x → (due x).pending ≡ None → AllHold all due → AllHold all (put due x (awaiting (due x) c))
+all_await {D = D} {disk = disk} all due x c calm none holds i it here = ⊎_elim same (λ ne. subst (HoldsDue it) (sym (put_away due x (awaiting (due x) c) (suc i) ne)) (holds i it here)) (cases_eq (suc i) x)
+  where
+    same : suc i ≡ x → HoldsDue it (put due x (awaiting (due x) c) (suc i))
+    same e =
+        let at : at_number (stores_of all) x ≡ Some it = subst (λ (n : ℕ). at_number (stores_of all) n ≡ Some it) e here in
+        let bare : Holds it (due x).head (due x).state None = subst (Holds it (due x).head (due x).state) none (subst (λ (n : ℕ). HoldsDue it (due n)) e (holds i it here)) in
+        subst (HoldsDue it) (sym (put_at due x (awaiting (due x) c) (suc i) e)) (calm_awaits it (due x).head (due x).state c (calm it at) bare)
 
 -- one store more
 pub limits_push : {D : Type 0} {disk : Ghosts D} (limit : ℕ) (stores stores' : List (Store D disk)) (it : Store D disk) → stores' ≡ stores ++ it ∷ [] → HaveLimit limit stores → limit_of it ≡ limit → HaveLimit limit stores'

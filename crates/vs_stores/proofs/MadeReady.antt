@@ -1,14 +1,14 @@
 -- Disks that are made ready, one after the other.
-use Rattle.std.proofs.Common.{◌≡◌, ⊎_elim, ℕ, ◌<◌, ◌≤◌, ◌+◌, List, Some, sym, ap, subst, ◌∙◌, arith}
+use Rattle.std.proofs.Common.{◌≡◌, ◌≢◌, ◌↔◌, ⊎_elim, ℕ, ◌<◌, ◌≤◌, ◌+◌, Bool, true, false, ◌&&◌, IsTrue, List, [], length, Some, refl, sym, ap, subst, ◌∙◌, arith}
 use Rattle.std.specs.Prelude.{slice_get, slice_set}
 use Rattle.std.proofs.lemmas.List.{length-set}
-use Rattle.std.proofs.lemmas.Bool.{cases_eq}
-use Rattle.vs_disk.specs.Told.{Told, IsOpen, Failed}
+use Rattle.std.proofs.lemmas.Bool.{cases_eq, false≢true}
+use Rattle.vs_disk.specs.Told.{Told, IsOpen, Reads, Failed}
 use Rattle.vs_frame.specs.Unwritten.{IsUnwritten}
 use Rattle.vs_store.specs.declared.fault.StoreFault.TheVariants.{DiskFault}
-use Rattle.vs_stores.specs.OpenedStores.{AreReady, AreUnwritten, HasFailed}
+use Rattle.vs_stores.specs.OpenedStores.{AreReady, AreEmpty, AreUnwritten, HasFailed}
 use Rattle.vs_stores.specs.declared.fault.OpenFault.TheVariants.{OfSet}
-use Rattle.vs_stores.proofs.Lists.{some_is, set_is, set_other, set_drop, drop_get, drop_more, number_is}
+use Rattle.vs_stores.proofs.Lists.{some_is, set_is, set_same, set_other, set_drop, drop_get, drop_more, number_is}
 
 module _ {D : Type 0} (told : D → Told) where
   -- more of them may have been touched
@@ -38,6 +38,24 @@ module _ {D : Type 0} (told : D → Told) where
       where
         same : j ≡ i → IsOpen (told it)
         same eq = subst (λ (d : D). IsOpen (told d)) (set_is after i is it (subst (λ (k : ℕ). slice_get (slice_set after i is) k ≡ Some it) eq e)) one
+
+    -- this one has no bytes, or it does
+    pub empty_next : (before_all here : Bool) → i < length after → AreEmpty told i after before_all → Reads (told is) (λ file. IsTrue here ↔ (file ≡ [])) → AreEmpty told (i + 1) (slice_set after i is) (before_all && here)
+    empty_next true true lt all one = each
+      where
+        same : (j : ℕ) (it : D) → slice_get (slice_set after i is) j ≡ Some it → j ≡ i → Reads (told it) (λ file. file ≡ [])
+        same j it e eq = subst (λ (d : D). Reads (told d) (λ file. file ≡ [])) (set_is after i is it (subst (λ (k : ℕ). slice_get (slice_set after i is) k ≡ Some it) eq e)) (λ tells. (one tells).0 refl)
+
+        each : (j : ℕ) (it : D) → j < i + 1 → slice_get (slice_set after i is) j ≡ Some it → Reads (told it) (λ file. file ≡ [])
+        each j it below e = ⊎_elim (same j it e) (λ ne. all j it (omega (arith, below, ne)) (sym (set_other after i j is ne) ∙ e)) (cases_eq j i)
+    empty_next true false lt all one = record { place = i; it = is; within = omega arith; here = set_same after i is lt; some = λ tells none. absurd (false≢true ((one tells).1 none)) }
+    empty_next false here lt all one = record {
+      place = all.place;
+      it = all.it;
+      within = omega (arith, all.within);
+      here = set_other after i all.place is (omega (arith, all.within)) ∙ all.here;
+      some = all.some;
+    }
 
     -- it failed
     pub has_failed : (sets x : ℕ) → x ≡ i + 1 → i < sets → Failed (told was) (told is) → HasFailed told sets before (slice_set after i is) (OfSet x DiskFault)

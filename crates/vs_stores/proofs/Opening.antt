@@ -1,8 +1,9 @@
 -- Journals that are opened one after the other.
-use Rattle.std.proofs.Common.{◌≡◌, ◌≢◌, inl, ⊎_elim, ℕ, zero, suc, ◌<◌, ◌≤◌, ◌+◌, ◌-◌, List, [], ◌∷◌, ◌++◌, length, drop, map, Some, Result, Ok, Err, refl, sym, ap, subst, ◌∙◌, arith, length-append, length-drop}
-use Rattle.std.specs.Prelude.{slice_get, IsOkAnd}
+use Rattle.std.proofs.Common.{◌≡◌, ◌≢◌, inl, ⊎_elim, ℕ, zero, suc, ◌<◌, ◌≤◌, ◌+◌, ◌-◌, List, [], ◌∷◌, ◌++◌, length, drop, map, Some, Result, Ok, Err, get_or, refl, sym, ap, subst, ◌∙◌, arith, length-append, length-drop}
+use Rattle.std.specs.Prelude.{slice_get, IsOkAnd, All}
 use Rattle.std.proofs.lemmas.Bool.{cases_lt}
 use Rattle.std.proofs.lemmas.List.{drop-drop, length-map}
+use Rattle.std.proofs.lemmas.List.Elements.{All-nil, All-cons, All-append, All-get_or}
 use Rattle.std.proofs.lemmas.Option.{slice_get-map, slice_get_within}
 use Rattle.std.proofs.Math.Seq.{drop-append-add}
 use Rattle.std.specs.Option.{option_map}
@@ -14,7 +15,7 @@ use Rattle.vs_disk.proofs.Runs.{weakened_through}
 use Rattle.vs_frame.specs.Unwritten.{IsUnwritten, TornOf}
 use Rattle.vs_frame.specs.declared.head.Head.{Head}
 use Rattle.vs_record.specs.Durable.{Durable}
-use Rattle.vs_record.specs.States.{durable}
+use Rattle.vs_record.specs.States.{durable, IsOfBuckets}
 use Rattle.vs_record.specs.declared.set_state.SetState.{SetState}
 use Rattle.vs_store.specs.declared.fault.StoreFault.{StoreFault}
 use Rattle.vs_store.specs.declared.fault.StoreFault.TheVariants.{Full, DiskFault, NotAJournal, OtherSet, OtherCount, NoMemory}
@@ -62,6 +63,18 @@ no_memory told laws head limit = unwritten_refused told told (unwritten_same tol
 pub disk_failed : (a b : Told) → IsUnwritten a b → (head : Head) (limit : ℕ) (fault : StoreFault) → fault ≡ DiskFault → Failed a b → IsNotOpened head limit a fault b
 disk_failed a b u head limit fault is failed = subst (λ (f : StoreFault). IsNotOpened head limit a f b) (sym is) (unwritten_refused a b u head limit DiskFault (λ h. h) (λ len e. cc e) (λ e. failed))
 
+-- ---- buckets up to the count
+
+-- the states are of as many buckets as all heads say
+abbrev pub AreWithin : List Head → List SetState → Type 0
+AreWithin heads states = (n : ℕ) → All (λ (head : Head). head.bucket_count ≡ n) heads → All (IsOfBuckets n) states
+
+one_within : (heads : List Head) (states : List SetState) (k : ℕ) (head : Head) (state : SetState) (states' : List SetState) → k < length heads → head ≡ get_or heads k head → states' ≡ states ++ state ∷ []
+    → IsOfBuckets head.bucket_count state → AreWithin heads states → AreWithin heads states'
+one_within heads states k head state states' lt here are one all n same =
+    let count : head.bucket_count ≡ n = ap (λ (h : Head). h.bucket_count) here ∙ All-get_or (λ (h : Head). h.bucket_count ≡ n) heads k head lt same in
+    subst (All (IsOfBuckets n)) (sym are) (All-append (IsOfBuckets n) states (state ∷ []) (all n same) (All-cons (IsOfBuckets n) state [] (subst (λ (m : ℕ). IsOfBuckets m state) count one) (All-nil (IsOfBuckets n))))
+
 -- ---- so far
 
 abbrev pub AreEachOpened : {D : Type 0} {disk : Ghosts D} → List Head → ℕ → List D → List (Store D disk) → List SetState → Type 0
@@ -75,6 +88,7 @@ pub record SoFar {D : Type 0} {disk : Ghosts D} (heads : List Head) (limit : ℕ
   pub limit_is : limit_of all ≡ limit
   pub spare : spare_of all ≡ drop k before
   pub each : AreEachOpened heads limit before (stores_of all) states
+  pub within : AreWithin heads states
 
 module _ {D : Type 0} {disk : Ghosts D} (laws : (it : D) → IsLawful (disk.told it)) (heads : List Head) (limit : ℕ) (before : List D) (enough : length heads ≤ length before) where
   -- the disks of these stores, and behind them others
@@ -143,8 +157,9 @@ module _ {D : Type 0} {disk : Ghosts D} (laws : (it : D) → IsLawful (disk.told
 
     -- one set more
     module _ (head : Head) (h : slice_get heads n ≡ Some head) (new : Stores D disk) where
-      pub one_more : (state : SetState) (states' : List SetState) → states' ≡ states ++ state ∷ [] → IsAdded all new head (durable state) → SoFar heads limit before new states' (n + 1)
-      one_more state states' states_are x = record {
+      pub one_more : (state : SetState) (states' : List SetState) → states' ≡ states ++ state ∷ [] → IsAdded all new head (durable state) → n < length heads → head ≡ get_or heads n head → IsOfBuckets head.bucket_count state → SoFar heads limit before new states' (n + 1)
+      one_more state states' states_are x lt here of_count = record {
+        within = one_within heads states n head state states' lt here states_are of_count so_far.within;
         count = omega (arith, ap length x.stores, length-append (stores_of all) (x.it ∷ []), so_far.count);
         count_of_states = omega (arith, ap length states_are, length-append states (state ∷ []), so_far.count_of_states);
         limit_is = x.limit ∙ so_far.limit_is;

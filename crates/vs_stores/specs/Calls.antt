@@ -12,7 +12,7 @@ use Rattle.vs_store.specs.Holding.{Accepts, Holds}
 use Rattle.vs_store.specs.Store.{told_of}
 use Rattle.vs_store.specs.declared.store.Store.{Store}
 use Rattle.vs_stores.specs.Due.{Due, made, awaiting}
-use Rattle.vs_stores.specs.Stores.{AllHold, OfStore, OfBoth, IsReadyAt, length_at, length_with_at, limit_of}
+use Rattle.vs_stores.specs.Stores.{AllHold, OfStore, OfBoth, IsReadyAt, IsCalmAt, length_at, length_with_at, limit_of}
 use Rattle.vs_stores.specs.declared.stores.Stores.{Stores}
 
 -- a change may be appended to the journal of this set
@@ -37,6 +37,10 @@ Turns old new x pending next = (due : ℕ → Due) → (due x).pending ≡ pendi
 abbrev pub StillHold : {D : Type 0} {disk : Ghosts D} → Stores D disk → Stores D disk → Type 0
 StillHold old new = (due : ℕ → Due) → AllHold old due → AllHold new due
 
+-- the same, where nothing is pending at this set
+abbrev pub StillBare : {D : Type 0} {disk : Ghosts D} → Stores D disk → Stores D disk → ℕ → Type 0
+StillBare old new x = (due : ℕ → Due) → (due x).pending ≡ None → AllHold old due → AllHold new due
+
 -- the same, where this change is pending
 abbrev pub StillAwait : {D : Type 0} {disk : Ghosts D} → Stores D disk → Stores D disk → ℕ → Change → Type 0
 StillAwait old new x c = (due : ℕ → Due) → (due x).pending ≡ Some c → AllHold old due → AllHold new due
@@ -56,6 +60,7 @@ IsSafeThrough old new x pending change = (due : ℕ → Due) → (due x).pending
 -- it was made
 pub record IsMade {D : Type 0} {disk : Ghosts D} (old new : Stores D disk) (x : ℕ) (c : Change) : Type 0 where
   pub ready : IsReadyAt new x
+  pub calm : IsCalmAt new x
   pub holds : Turns old new x None (λ o. made o c)
   pub length_is : length_at new x ≡ length_with_at old x c
   pub room : length_with_at old x c ≤ limit_of old
@@ -70,6 +75,7 @@ pub record IsPending {D : Type 0} {disk : Ghosts D} (old new : Stores D disk) (x
 -- it was refused, and nothing was written
 pub record IsRefused {D : Type 0} {disk : Ghosts D} (old new : Stores D disk) (x : ℕ) : Type 0 where
   pub ready : IsReadyAt new x
+  pub calm : IsCalmAt old x → IsCalmAt new x
   pub holds : StillHold old new
   pub length_is : length_at new x ≡ length_at old x
   pub unwritten : OfBoth old new x (λ was is. IsUnwritten (told_of was) (told_of is))

@@ -1,5 +1,5 @@
 -- What opening the journals of a cluster gives.
-use Rattle.std.specs.Prelude.{◌≡◌, ◌≢◌, ℕ, ◌<◌, ◌≤◌, suc, List, [], ◌∷◌, ◌++◌, length, drop, Some, IsOkAnd, slice_get, None}
+use Rattle.std.specs.Prelude.{◌≡◌, ◌≢◌, ℕ, ◌<◌, ◌≤◌, suc, Bool, true, false, List, [], ◌∷◌, ◌++◌, length, drop, Some, IsOkAnd, slice_get, None}
 use Rattle.vs_disk.specs.declared.disk.Disk.{Ghosts}
 use Rattle.vs_disk.specs.Told.{Told, IsOpen, Reads, Failed}
 use Rattle.vs_frame.specs.Unwritten.{IsUnwritten}
@@ -24,6 +24,19 @@ use Rattle.vs_stores.specs.declared.stores.Stores.{Stores}
 -- those of so many sets are open
 abbrev pub AreReady : {D : Type 0} → (D → Told) → ℕ → List D → Type 0
 AreReady {D} told sets disks = (i : ℕ) (it : D) → i < sets → slice_get disks i ≡ Some it → IsOpen (told it)
+
+-- one of those of so many sets has bytes, where it tells what a read gives
+pub record HasBytes {D : Type 0} (told : D → Told) (sets : ℕ) (disks : List D) : Type 0 where
+  pub place : ℕ
+  pub it : D
+  pub within : place < sets
+  pub here : slice_get disks place ≡ Some it
+  pub some : Reads (told it) (λ file. file ≢ [])
+
+-- whether none of those of so many sets has bytes
+abbrev pub AreEmpty : {D : Type 0} → (D → Told) → ℕ → List D → Bool → Type 0
+AreEmpty {D} told sets disks true = (i : ℕ) (it : D) → i < sets → slice_get disks i ≡ Some it → Reads (told it) (λ file. file ≡ [])
+AreEmpty {D} told sets disks false = HasBytes told sets disks
 
 -- nothing was written, and those that no set uses are the same
 pub record AreUnwritten {D : Type 0} (told : D → Told) (sets : ℕ) (before after : List D) : Type 0 where

@@ -50,6 +50,10 @@ AllHold {D} {disk} all due = (i : ℕ) (it : Store D disk) → slice_get (stores
 abbrev pub IsReadyAt : {D : Type 0} {disk : Ghosts D} → Stores D disk → ℕ → Type 0
 IsReadyAt all x = OfStore all x store.IsReady
 
+-- no append to its journal failed since one that was made, but for one that was forgotten
+abbrev pub IsCalmAt : {D : Type 0} {disk : Ghosts D} → Stores D disk → ℕ → Type 0
+IsCalmAt all x = OfStore all x store.IsCalm
+
 -- the length of its journal, up to the gate that ends it and with that; a change that is pending isn't counted
 abbrev pub length_at : {D : Type 0} {disk : Ghosts D} → Stores D disk → ℕ → ℕ
 length_at all x = option_map_or store.length_of (store_at all x) 0

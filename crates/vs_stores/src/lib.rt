@@ -7,4 +7,5 @@ mod restart;
 mod stores;
 
 pub use fault::{AppendFault, OpenFault};
+pub use ready::make_ready;
 pub use stores::Stores;

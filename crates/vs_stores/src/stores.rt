@@ -10,7 +10,7 @@ ghost use Rattle.vs_record.specs.Change.{change as plain_of};
 ghost use Rattle.vs_stores.specs.Limits.{HaveLimit};
 
 use crate::fault::{AppendFault, OpenFault};
-use crate::ready::{make_all_ready, number_at, place_of};
+use crate::ready::{number_at, place_of};
 use crate::restart::{keep, take_out};
 use std::alloc::Global;
 use vs_base::SetNo;
@@ -34,43 +34,19 @@ pub struct Stores<D: Disk + Drop> {
 
 impl<D: Disk + Drop> Stores<D> {
     ghost use Rattle.vs_frame.specs.declared.head.Head as head;
-    ghost use Rattle.vs_record.specs.States.{durable};
+    ghost use Rattle.vs_record.specs.States.{durable, IsOfBuckets};
     ghost use Rattle.vs_store.specs.Opening.{IsOpened, IsNotOpened};
     ghost use Rattle.vs_store.specs.declared.fault.StoreFault as fault;
-    ghost use Rattle.vs_stores.specs.Calls.{AcceptsAt, AwaitsAt, Turns, StillHold, StillAwait, FailsAt, IsSafeThrough, IsMade, IsPending, IsRefused, IsTooLong};
+    ghost use Rattle.vs_stores.specs.Calls.{AcceptsAt, AwaitsAt, Turns, StillHold, StillBare, StillAwait, FailsAt, IsSafeThrough, IsMade, IsPending, IsRefused, IsTooLong};
     ghost use Rattle.vs_stores.specs.Due.{Due, decided};
     ghost use Rattle.vs_stores.specs.OpenedStores.{AreOpened, AreNotOpened, AreReady, AreDue, IsAdded, IsNotAdded};
-    ghost use Rattle.vs_stores.specs.Stores.{stores_of, spare_of, disks_of, limit_of, HasSet, AllHold, IsReadyAt, length_at, KeepsOthers, IsReservedAt, faults_at};
+    ghost use Rattle.vs_store.specs.Store.{disk_of};
+    ghost use Rattle.vs_stores.specs.Stores.{stores_of, spare_of, disks_of, limit_of, HasSet, OfBoth, AllHold, IsReadyAt, IsCalmAt, length_at, KeepsOthers, IsReservedAt, faults_at};
 
-    /// Opens the journals of all sets, whose heads these are, set 1 first, on the first disks. A
-    /// journal of length 0 is created. First the disks of all sets are opened and their lengths
-    /// read, then the journals, and the first set that is refused ends it.
+    /// Opens the journals of all sets, whose heads these are, set 1 first, on the first disks, which
+    /// `make_ready` has opened. A journal of length 0 is created. The first set that is refused ends
+    /// it.
     pub fn open(
-        alloc: Global,
-        disks: Vec<D>,
-        heads: &[Head],
-        limit: u64,
-    ) -> Result<(Stores<D>, Vec<SetState>), (OpenFault, Vec<D>)>
-        requires heads { All IsHead heads.now }
-        requires count { length heads.now ≤ 32 }
-        requires disks { length heads.now ≤ length disks.items }
-        requires limit { 38 ≤ limit }
-        ensures opened { IfOk result (λ r.
-            AreOpened heads.now limit disks.items r.0 r.1.items) }
-        ensures holds { IfOk result (λ r. (due : ℕ → Due) → AreDue heads.now r.1.items due
-            → AllHold r.0 due) }
-        ensures refused { IfErr result (λ e.
-            AreNotOpened D.told heads.now limit disks.items e.0 e.1.items) }
-    {
-        let mut disks = disks;
-        match make_all_ready(&mut disks, heads.len()) {
-            Ok(()) => Stores::open_ready(alloc, disks, heads, limit),
-            Err(fault) => Err((fault, disks)),
-        }
-    }
-
-    // The same on disks that are open.
-    fn open_ready(
         alloc: Global,
         disks: Vec<D>,
         heads: &[Head],
@@ -83,6 +59,10 @@ impl<D: Disk + Drop> Stores<D> {
         requires limit { 38 ≤ limit }
         ensures opened { IfOk result (λ r.
             AreOpened heads.now limit disks.items r.0 r.1.items) }
+        ensures holds { IfOk result (λ r. (due : ℕ → Due) → AreDue heads.now r.1.items due
+            → AllHold r.0 due) }
+        ensures within { (n : ℕ) → All (λ head. head.bucket_count ≡ n) heads.now
+            → IfOk result (λ r. All (IsOfBuckets n) r.1.items) }
         ensures refused { IfErr result (λ e.
             AreNotOpened D.told heads.now limit disks.items e.0 e.1.items) }
     {
@@ -112,6 +92,7 @@ impl<D: Disk + Drop> Stores<D> {
         requires some { 1 ≤ length (spare_of self.old) }
         requires limit { 38 ≤ limit_of self.old }
         ensures added { IfOk result (λ state. IsAdded self.old self.new head.now (durable state)) }
+        ensures within { IfOk result (IsOfBuckets head.now.bucket_count) }
         ensures refused { IfErr result (IsNotAdded self.old self.new head.now) }
     {
         if self.stores.reserve(1).is_err() {
@@ -163,8 +144,9 @@ impl<D: Disk + Drop> Stores<D> {
         }
     }
 
-    /// Looks whether the change that is pending is in the journal of a set, after which none is
-    /// pending. Where none was, the answer says nothing. It writes nothing, and takes no memory.
+    /// Looks whether the change that is pending is in the journal of a set. After that none need be
+    /// pending any more: the state is the one with the change or the one without, as it answers. It
+    /// writes nothing, and takes no memory.
     pub fn reopen(&mut self, set: SetNo) -> Result<bool, DiskFailed>
         requires has { HasSet self.old set }
         ensures ready { OnOk result (IsReadyAt self.new set) }
@@ -173,6 +155,12 @@ impl<D: Disk + Drop> Stores<D> {
 
         // What the stores held they still hold.
         ensures still { StillHold self.old self.new }
+
+        // Where no append failed that wasn't forgotten it answers false, and after that answer none
+        // is left to forget.
+        ensures none { IsCalmAt self.old set → IfOk result (λ found. found ≡ false) }
+        ensures calm { IfOk result (λ found. found ≡ false → IsCalmAt self.new set) }
+        ensures still_calm { IsCalmAt self.old set → IsCalmAt self.new set }
         ensures failed { OnErr result (FailsAt self.old self.new set) }
         ensures any_moment { (pending : Option plain.Change)
             → IsSafeThrough self.old self.new set pending pending }
@@ -183,6 +171,22 @@ impl<D: Disk + Drop> Stores<D> {
             Ok(found) => Ok(found),
             Err(_) => Err(DiskFailed),
         }
+    }
+
+    /// Forgets the append that failed, where nothing is pending: what the journal of the set has up
+    /// to its gate is all. It does nothing with the disk, and takes no memory.
+    pub fn forget_last(&mut self, set: SetNo)
+        requires has { HasSet self.old set }
+        requires ready { IsReadyAt self.old set }
+        ensures ready { IsReadyAt self.new set }
+        ensures calm { IsCalmAt self.new set }
+        ensures still { StillBare self.old self.new set }
+        ensures length { length_at self.new set ≡ length_at self.old set }
+        ensures disk { OfBoth self.old self.new set (λ was is. disk_of is ≡ disk_of was) }
+        ensures others { KeepsOthers self.old self.new set }
+    {
+        let store = &mut self.stores[place_of(set)];
+        store.forget_last();
     }
 
     /// Makes sure that the change that is pending is in the journal of a set: it is appended where
@@ -197,12 +201,15 @@ impl<D: Disk + Drop> Stores<D> {
         requires counts { HasCounts (plain_of change.now) }
         requires awaits { AwaitsAt self.old set (plain_of change.now) }
         ensures ready { OnOk result (IsReadyAt self.new set) }
+        ensures calm { OnOk result (IsCalmAt self.new set) }
         ensures kept { OnOk result
             (Turns self.old self.new set (Some (plain_of change.now)) (λ o. decided o true)) }
         ensures still { OnErr result (StillAwait self.old self.new set (plain_of change.now)) }
         ensures failed { IsErrOf result AppendFault.DiskFault → FailsAt self.old self.new set }
         ensures full { (len : ℕ) → IsErrOf result (AppendFault.Full len)
             → IsTooLong self.new set (plain_of change.now) len }
+        ensures ready_full { (len : ℕ) → IsErrOf result (AppendFault.Full len)
+            → IsReadyAt self.new set }
         ensures any_moment { IsSafeThrough self.old self.new set
             (Some (plain_of change.now)) (Some (plain_of change.now)) }
         ensures others { KeepsOthers self.old self.new set }
@@ -216,9 +223,10 @@ impl<D: Disk + Drop> Stores<D> {
     pub fn drop_pending(&mut self, set: SetNo) -> Result<(), DiskFailed>
         requires has { HasSet self.old set }
         ensures ready { OnOk result (IsReadyAt self.new set) }
+        ensures calm { OnOk result (IsCalmAt self.new set) }
         ensures dropped { OnOk result ((c : plain.Change)
             → Turns self.old self.new set (Some c) (λ o. decided o false)) }
-        ensures still { (c : plain.Change) → StillAwait self.old self.new set c }
+        ensures still { OnErr result ((c : plain.Change) → StillAwait self.old self.new set c) }
         ensures failed { OnErr result (FailsAt self.old self.new set) }
         ensures any_moment { (c : plain.Change)
             → IsSafeThrough self.old self.new set (Some c) (Some c) }

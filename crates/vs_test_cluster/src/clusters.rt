@@ -3,11 +3,12 @@ ghost use Rattle.vs_config.specs.Configuration.{configuration};
 ghost use Rattle.vs_machine.specs.Opening.{IsLawful};
 ghost use Rattle.vs_script.specs.Scripts as script;
 
-use std::alloc::Global;
+use std::alloc::{AllocError, Global};
 use uuid::Uuid;
 use vs_base::NoMemory;
 use vs_config::{Config, SetConfig, SetList};
 use vs_core::{Core, CoreFault, new_states};
+use vs_disk::PlainDisk;
 use vs_script::Scripts;
 
 fn set_config(number: u8, weight: u32) -> SetConfig {
@@ -50,4 +51,16 @@ pub fn new_core(alloc: Global, config: &Config, scripts: Scripts) -> Result<Core
         Err(CoreFault::NoMemory) => Err(NoMemory),
         Err(CoreFault::Incoherent { .. }) => unreachable!(),
     }
+}
+
+/// Disks in memory for as many sets as a cluster may have. Fails where memory is wanted.
+pub fn plain_disks(alloc: Global) -> Result<Vec<PlainDisk>, AllocError>
+    ensures { IfOk result (λ disks. length disks.items ≡ 32) }
+{
+    let mut disks = Vec::with_capacity(alloc, 32)?;
+    for made in 0..32u64 {
+        let _made = made;
+        disks.push(PlainDisk::new(alloc))?;
+    }
+    Ok(disks)
 }

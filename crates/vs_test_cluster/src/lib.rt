@@ -5,4 +5,4 @@ mod clusters;
 #[cfg(test)]
 mod tests;
 
-pub use clusters::{config, new_core};
+pub use clusters::{config, new_core, plain_disks};

@@ -1,6 +1,5 @@
 //! A module for each crate that is tested.
 
-mod audit;
 mod balance;
 mod collect;
 mod history;

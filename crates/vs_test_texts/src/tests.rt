@@ -2,6 +2,7 @@
 
 mod config;
 mod event;
+mod generated;
 mod host;
 mod inputs;
 mod script;

@@ -1,5 +1,5 @@
 -- A cause that was found before a line was logged is one after it.
-use Rattle.std.proofs.Common.{◌≡◌, ℕ, List, subst, sym, arith, inl, inr, ◌∙◌}
+use Rattle.std.proofs.Common.{◌≡◌, ℕ, List, arith, inl, inr}
 use Rattle.std.specs.Prelude.{Result}
 use Rattle.vs_host.specs.Told.{Told}
 use Rattle.vs_inputs.specs.declared.built.Built.{Built}
@@ -7,7 +7,7 @@ use Rattle.vs_inputs.specs.declared.fault.InputFault.{InputFault}
 use Rattle.vs_inputs.specs.declared.fault.InputFault.TheVariants.{Text, Read, NoMemory}
 use Rattle.vs_inputs.specs.declared.fault.TextFault.{TextFault}
 use Rattle.vs_inputs.specs.declared.fault.TextFault.TheVariants as text
-use Rattle.vs_inputs.specs.Inputs.{IsEventsCause, IsScriptsCause, IsInputCause}
+use Rattle.vs_inputs.specs.Inputs.{IsInputCause}
 use Rattle.vs_inputs.specs.Reading.{IsFileCause, TookTooMuch}
 use Rattle.vs_inputs.specs.Words.{Names}
 
@@ -15,7 +15,7 @@ took : (fault : TextFault) (mid new : Told) → new.taken ≡ mid.taken → Took
 took text.TooLong mid new same more = omega (arith, same, more)
 took fault mid new same more = tt
 
-file_cause : {Y : Type 0} (fault : InputFault) (place : ℕ) (name : List ℕ) (Gives : List ℕ → Result Y TextFault → Type 0) (old mid new : Told) → new.taken ≡ mid.taken → new.read_faults ≡ mid.read_faults
+pub file_cause : {Y : Type 0} (fault : InputFault) (place : ℕ) (name : List ℕ) (Gives : List ℕ → Result Y TextFault → Type 0) (old mid new : Told) → new.taken ≡ mid.taken → new.read_faults ≡ mid.read_faults
     → IsFileCause fault place name Gives old mid → IsFileCause fault place name Gives old new
 file_cause (Text k fault) place name Gives old mid new taken faults cause = (cause.0, cause.1, took fault mid new taken cause.2)
 file_cause (Read k) place name Gives old mid new taken faults cause = (cause.0, omega (arith, cause.1, faults))

@@ -1,5 +1,7 @@
 pub mod Causes
 pub mod Ending
+pub mod Files
 pub mod Playing
-pub mod Runs
 pub mod Possible
+pub mod Stopped
+pub mod Stopping

@@ -1,74 +1,65 @@
--- From the files of a command to how it ends.
-use Rattle.std.proofs.Common.{◌≡◌, ℕ, List, [], ◌∷◌, All, refl, ◌∙◌, sym, subst, arith, inl, inr, Ok, Err}
-use Rattle.std.specs.Prelude.{IsTrue, drop}
+-- What becomes of events that are played on a world that was opened.
+use Rattle.std.proofs.Common.{◌≡◌, ◌≤◌, ℕ, true, List, length, sym, ap, subst, arith, ◌∙◌}
+use Rattle.std.proofs.Math.Seq.{take-length}
+use Rattle.std.proofs.lemmas.Bool.Decides.{nat_tests}
 use Rattle.vs_config.specs.Configuration.{Configuration}
+use Rattle.vs_disk.specs.Told.{Told}
 use Rattle.vs_event.specs.declared.event.Event.{Event}
-use Rattle.vs_host.specs.declared.fault.HostFailed.{HostFailed}
-use Rattle.vs_host.specs.Faults.{Rose}
-use Rattle.vs_host.specs.Told.{Told}
-use Rattle.vs_host.specs.Calls.{PutsOut}
-use Rattle.vs_inputs.specs.declared.built.Built.TheVariants.{Moves}
-use Rattle.vs_inputs.specs.declared.fault.InputFault.{InputFault}
-use Rattle.vs_inputs.specs.declared.fault.InputFault.TheVariants as input
-use Rattle.vs_inputs.specs.Inputs.{AreInputs, IsInputCause, MayReadFiles}
-use Rattle.vs_inputs.specs.Reading.{OnlyReads, IsOutside}
-use Rattle.vs_inputs.specs.Words.{Names, files_of, IsCommand, MayRead}
 use Rattle.vs_script.specs.Scripts.{Scripts}
-use Rattle.vs_top.specs.declared.play.PlayFault.{PlayFault}
-use Rattle.vs_top.specs.declared.play.PlayFault.TheVariants as play
-use Rattle.vs_top.specs.Endings.{HasReport, IsPlayed, IsReportCut, IsFilesCause, MayEndGood, MayEndPossible}
-use Rattle.vs_top.specs.Faults.{from_inputs, from_play}
-use Rattle.vs_top.specs.Plays.{IsPlayCause}
+use Rattle.vs_core.specs.Safety.{SafeRuns}
+use Rattle.vs_machine.specs.Journals.{held_as}
+use Rattle.vs_machine.specs.Laws.{BegunInputs}
+use Rattle.vs_machine.specs.Report.{report}
+use Rattle.vs_machine.specs.Runs.{IsOpening}
+use Rattle.vs_machine.specs.Step.{run}
+use Rattle.vs_machine.specs.Tables.{is_to}
+use Rattle.vs_stores.specs.Numbered.{at_number}
+use Rattle.vs_world.proofs.Playing.{config_is}
+use Rattle.vs_world.specs.Began.{begun, start_of}
+use Rattle.vs_world.specs.Opened.{IsOpened}
+use Rattle.vs_world.specs.Played.{began, state_of}
+use Rattle.vs_world.specs.World.{World, IsKept}
+use Rattle.vs_top.specs.Plays.{IsBegun, IsReportOf, AreFit, played_on, journal_limit}
+use Rattle.vs_top.specs.Stops.{HasPlayed, IsFresh}
 
--- a command's files may be read
-pub may_read_files : (host : Told) (words : List (List ℕ)) (names : Names) → IsCommand words names → MayRead host words → MayReadFiles host names
-may_read_files host words names command may_read = subst (MayRead host) command.words_are may_read
+-- a number from 1 to n is that of a set
+to_set : (n x : ℕ) → 1 ≤ x → x ≤ n → is_to n x ≡ true
+to_set n x first last = grind (arith, nat_tests, first, last)
 
--- two commands of the same words name the same files
-pub same_names : (words : List (List ℕ)) (x y : Names) → IsCommand words x → IsCommand words y → x ≡ y
-same_names words x y one other =
-    let both : one.command ∷ files_of x ≡ other.command ∷ files_of y = sym one.words_are ∙ other.words_are in
-    let config : x.config ≡ y.config = cc both in
-    let events : x.events ≡ y.events = cc both in
-    let scripts : x.scripts ≡ y.scripts = cc both in
-    λ i. record { config = config i; events = events i; scripts = scripts i }
+module _ {D : Type 0} (told : D → Told) (config : Configuration) (scripts : Scripts) (before : List D) (w : World D) (o : IsOpened told config scripts journal_limit before w) where
+  -- it begins with the texts and the journals
+  pub is_begun : (events : List Event) (after : List D) → IsBegun (played_on told config scripts events before after) (began w.played)
+  is_begun events after = record {
+    config_is = o.config_is;
+    scripts_are = o.scripts_are;
+    limit_is = o.limit_is;
+    states_are = o.states_are;
+    coherent =
+        subst (λ c. IsOpening c scripts (held_as (began w.played).states)) o.config_is
+        (subst (λ s. IsOpening (began w.played).config s (held_as (began w.played).states)) o.scripts_are o.kept.run.opens);
+  }
 
--- the report, or a front of it, was put out after the files were read
-pub is_played : (names : Names) (text bytes : List ℕ) (old mid new : Told) (u : Unit {0}) → HasReport names old.file text → OnlyReads old mid → bytes ≡ text → PutsOut bytes mid new (Ok u) → IsPlayed old new names
-is_played names text bytes old mid new u has reads is puts = record {
-  text = text;
-  report = has;
-  out = rw (← reads.out, ← is) puts.out;
-  log = puts.log ∙ reads.log;
-}
+  pub is_fresh : IsFresh w
+  is_fresh = record { state = o.state; events = o.events; disks = o.kept.disks }
 
-pub is_cut : (names : Names) (text bytes : List ℕ) (old mid new : Told) (e : HostFailed) → HasReport names old.file text → OnlyReads old mid → bytes ≡ text → PutsOut {U = Unit {0}} bytes mid new (Err e) → IsReportCut old new names
-is_cut names text bytes old mid new e has reads is puts = record {
-  text = text;
-  report = has;
-  out = rw (← reads.out, ← is) puts.out;
-  rose = rw (← reads.write_faults) puts.failed;
-}
+  module _ (inputs : BegunInputs) (w1 : World D) (k : IsKept told w1) (same : w1.played.opening ≡ w.played.opening) where
+    -- no event changes the configuration
+    pub config_now : (state_of w1.played).config ≡ config
+    config_now = config_is inputs w1.played k.run ∙ ap (λ opening. (begun opening).config) same ∙ o.config_is
 
--- a read that failed was counted
-read_rose : (k : ℕ) (names : Names) (old new : Told) → IsInputCause Moves names (input.Read k) old new → Rose old.read_faults new.read_faults
-read_rose k names old new (inl config) = config.1
-read_rose k names old new (inr (inl events)) = events.cause.1
-read_rose k names old new (inr (inr (inl scripts))) = scripts.script.cause.1
-read_rose k names old new (inr (inr (inr gather))) = absurd gather.refused
+    -- the disks fit the state
+    pub are_fit : (events : List Event) (after : List D) → w1.disks ≡ after → AreFit (played_on told config scripts events before after) (state_of w1.played)
+    are_fit events after disks x it set at = k.fits x (ap (λ c. is_to (length c.sets) x) config_now ∙ to_set (length config.sets) x set.0 set.1) it (ap (λ (ds : List D). at_number ds x) disks ∙ at)
 
--- files that give no inputs
-pub input_fault : (fault : InputFault) (names : Names) (old mid : Told) → OnlyReads old mid → IsInputCause Moves names fault old mid → IsFilesCause (from_inputs fault) old mid names
-input_fault (input.Text k fault) names old mid reads cause = record { cause = cause; out = reads.out }
-input_fault (input.Read k) names old mid reads cause = record { cause = cause; rose = read_rose k names old mid cause; out = reads.out }
-input_fault input.NoMemory names old mid reads cause = reads.out
-
--- inputs that have no report
-pub play_fault : (fault : PlayFault) (names : Names) (config : Configuration) (scripts : Scripts) (events : List Event) (old mid : Told) → AreInputs Moves old.file names config events scripts → OnlyReads old mid → IsPlayCause fault config scripts events
-    → IsFilesCause (from_play fault) old mid names
-play_fault (play.Event number reason) names config scripts events old mid inputs reads cause = record {
-  given = record { config = config; events = events; scripts = scripts; inputs = inputs };
-  refused = cause;
-  out = reads.out;
-}
-play_fault play.NoMemory names config scripts events old mid inputs reads cause = reads.out
+    -- all events were played
+    pub is_report : SafeRuns → (events : List Event) (after : List D) (text : List ℕ) → w1.disks ≡ after → HasPlayed told w w1 events (length events) → text ≡ report (state_of w1.played)
+        → IsReportOf (played_on told config scripts events before after) text
+    is_report law events after text disks all is = record {
+      began = began w.played;
+      begun = is_begun events after;
+      last = state_of w1.played;
+      ran = ap (λ (es : List Event). run (start_of (began w.played)) es) (sym (take-length events)) ∙ all.ran;
+      safe = law (began w.played).config (began w.played).scripts (held_as (began w.played).states) events o.kept.run.opens;
+      fits = are_fit events after disks;
+      text_is = is;
+    }

@@ -1,3 +1,4 @@
+pub use Rattle.vs_ending.specs.Ending
 pub use Rattle.vs_inputs.specs.Words
 pub use Rattle.vs_inputs.specs.Inputs
 pub use Rattle.vs_machine.specs.Step
@@ -6,5 +7,6 @@ pub use Rattle.vs_core.specs.Safety
 pub mod Faults
 pub mod Statuses
 pub mod Plays
+pub mod Stops
 pub mod Endings
 pub mod Logged

@@ -17,6 +17,10 @@ abbrev pub IsEarly : Fault → Type 0
 IsEarly (faults.Text k fault) = Unit {0}
 IsEarly (faults.Event number reason) = Unit {0}
 IsEarly (faults.Read k) = Unit {0}
+IsEarly (faults.Disk x) = Unit {0}
+IsEarly (faults.Journal x fault wanted) = Unit {0}
+IsEarly (faults.Incoherent bucket entries) = Unit {0}
+IsEarly (faults.Full x) = Unit {0}
 IsEarly fault = ⊥
 
 -- the fault is told, or that there was no memory for its line

@@ -1,13 +1,23 @@
 //! Why files are not played.
 
+ghost use Rattle.std.specs.Prelude.{◌≡◌, ◌≤◌, length};
+ghost use Rattle.vs_config.specs.Configuration.{configuration};
+ghost use Rattle.vs_world.specs.declared.fault.WorldFault.TheVariants as opening;
+ghost use Rattle.vs_top.specs.Faults.{IsNumbered, IsOfPlay, IsOfSets, from_opening, from_play, uuid_in};
+
 use crate::play::PlayFault;
-use vs_base::NoMemory;
+use uuid::Uuid;
+use vs_base::{BucketId, NoMemory, SetNo};
+use vs_config::Config;
+use vs_core::Placement;
 use vs_event::Reason;
 use vs_host::HostFailed;
 use vs_inputs::{InputFault, TextFault};
+use vs_store::StoreFault;
+use vs_world::WorldFault;
 
 /// Why files are not played. An input is named by the place of its file among the words after the command, from 1.
-#[derive(Clone, Copy, Debug)]
+#[derive(Drop)]
 pub enum Fault {
     /// The words are no command.
     Words,
@@ -19,8 +29,43 @@ pub enum Fault {
     Read(u64),
     /// Putting the report out failed.
     Write,
+    /// The disk of this set failed.
+    Disk(SetNo),
+    /// The journal of this set is none, or not that of this uuid in a cluster of so many buckets.
+    Journal(SetNo, StoreFault, Uuid),
+    /// What the journals stand for doesn't fit together in this bucket, which these sets have.
+    Incoherent(BucketId, Placement),
+    /// An entry would carry the journal of this set past the limit.
+    Full(SetNo),
     /// Memory was refused.
     NoMemory,
+}
+
+/// The uuid of a set of a configuration.
+fn uuid_of(config: &Config, set: SetNo) -> Uuid
+    requires { set ≤ length config.now.sets.items }
+    ensures { result ≡ uuid_in (configuration config.now) set }
+{
+    match config.sets.get(usize::from(set.get()) - 1) {
+        Some(of_set) => of_set.uuid,
+        None => unreachable!(),
+    }
+}
+
+/// The fault of a journal that was refused.
+fn of_journal(set: SetNo, fault: StoreFault, config: &Config) -> Fault
+    requires { set ≤ length config.now.sets.items }
+    ensures is { result ≡ from_opening (opening.OfSet set fault) (configuration config.now) }
+    ensures numbered { IsNumbered result }
+{
+    match fault {
+        StoreFault::DiskFault => Fault::Disk(set),
+        StoreFault::Full(_) => Fault::Full(set),
+        StoreFault::NoMemory => Fault::NoMemory,
+        StoreFault::NotAJournal(_) | StoreFault::OtherSet(_) | StoreFault::OtherCount(_) => {
+            Fault::Journal(set, fault, uuid_of(config, set))
+        }
+    }
 }
 
 impl Fault {
@@ -37,7 +82,38 @@ impl Fault {
             Fault::Event(_, _) => 4,
             Fault::Read(_) => 5,
             Fault::Write => 6,
+            Fault::Disk(_) => 7,
+            Fault::Journal(_, _, _) | Fault::Incoherent(_, _) => 8,
             Fault::NoMemory => 9,
+            Fault::Full(_) => 10,
+        }
+    }
+
+    /// Why the journals of this configuration weren't opened.
+    pub fn of_opening(fault: WorldFault, config: &Config) -> Fault
+        requires { IsOfSets fault (length config.now.sets.items) }
+        ensures is { result ≡ from_opening fault (configuration config.now) }
+        ensures numbered { IsNumbered result }
+    {
+        match fault {
+            WorldFault::OfSet(set, fault) => of_journal(set, fault, config),
+            WorldFault::Incoherent { bucket, entries } => Fault::Incoherent(bucket, entries),
+            WorldFault::NoMemory => Fault::NoMemory,
+        }
+    }
+
+    /// Why a cluster of this configuration wasn't played to the end.
+    pub fn of_play(fault: PlayFault, config: &Config) -> Fault
+        requires { IsOfPlay fault (length config.now.sets.items) }
+        ensures is { result ≡ from_play fault (configuration config.now) }
+        ensures numbered { IsNumbered result }
+    {
+        match fault {
+            PlayFault::Opening(fault) => Fault::of_opening(fault, config),
+            PlayFault::Event(number, reason) => Fault::Event(number, reason),
+            PlayFault::Disk(_, set) => Fault::Disk(set),
+            PlayFault::Full(_, set) => Fault::Full(set),
+            PlayFault::NoMemory => Fault::NoMemory,
         }
     }
 }
@@ -53,20 +129,6 @@ impl From<InputFault> for Fault {
             InputFault::Text(input, fault) => Fault::Text(input, fault),
             InputFault::Read(input) => Fault::Read(input),
             InputFault::NoMemory => Fault::NoMemory,
-        }
-    }
-}
-
-impl From<PlayFault> for Fault {
-    ghost use Rattle.std.specs.Prelude.{◌≡◌};
-    ghost use Rattle.vs_top.specs.Faults.{from_play};
-
-    ghost from_gives = { λ e fault. fault ≡ from_play e };
-
-    fn from(e: PlayFault) -> Self {
-        match e {
-            PlayFault::Event(number, reason) => Fault::Event(number, reason),
-            PlayFault::NoMemory => Fault::NoMemory,
         }
     }
 }

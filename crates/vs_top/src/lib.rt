@@ -6,4 +6,7 @@ mod fault_line;
 mod play;
 mod top;
 
+pub use fault::Fault;
+pub use fault_line::{fault_text, log_fault};
+pub use play::JOURNAL_LIMIT;
 pub use top::play_main;

@@ -1,1 +1,21 @@
+-- Lemmas on worlds.
+pub mod Beginning
+pub mod Carrying
+pub mod Counting
+pub mod Disks
+pub mod Dues
+pub mod Grown
+pub mod Headed
+pub mod Kept
+pub mod Lengths
+pub mod OpenedJournals
+pub mod Pending
 pub mod Playing
+pub mod Reserving
+pub mod RestartCauses
+pub mod Restarted
+pub mod Rising
+pub mod Safe
+pub mod States
+pub mod Touched
+pub mod Writing

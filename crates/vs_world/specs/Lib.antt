@@ -3,4 +3,17 @@ pub use Rattle.vs_core.specs.Core
 pub use Rattle.vs_core.specs.Safety
 pub use Rattle.vs_machine.specs.Opening
 pub use Rattle.vs_machine.specs.Step
+pub mod Began
+pub mod Beginning
+pub mod Counted
+pub mod Heads
+pub mod Journals
+pub mod NotOpened
+pub mod Opened
 pub mod Played
+pub mod Restarts
+pub mod Rising
+pub mod Steps
+pub mod Touched
+pub mod Whole
+pub mod World

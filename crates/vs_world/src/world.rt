@@ -1,135 +1,162 @@
-//! A cluster that keeps the list of its events.
+//! A cluster over journals.
 
-ghost use Rattle.std.specs.Prelude.{◌≡◌, ◌↔◌, ◌++◌, ◌∷◌, [], Ok, Err, IfOk, OnOk, OnErr};
-ghost use Rattle.vs_config.specs.Configuration.{configuration};
-ghost use Rattle.vs_core.specs.Booted.{booted};
+ghost use Rattle.std.specs.Prelude.{◌≡◌, ◌↔◌, ◌^◌, ◌-◌, ◌≤◌, min, ℕ, true, false, Ok, Err, IfOk, IfErr, OnOk};
 ghost use Rattle.vs_core.specs.Core.{means};
 ghost use Rattle.vs_core.specs.Safety.{IsSafe, IsSafeEvent, IsSafeRun};
-ghost use Rattle.vs_machine.specs.Opening.{IsLawful, opening};
-ghost use Rattle.vs_machine.specs.Runs.{IsOpening};
+ghost use Rattle.vs_event.specs.declared.event.Event.TheVariants as events;
+ghost use Rattle.vs_machine.specs.State.{has_set};
 ghost use Rattle.vs_machine.specs.Step.{step};
-ghost use Rattle.vs_script.specs.Scripts as script;
-ghost use Rattle.vs_state.specs.Guard.{verdict};
-ghost use Rattle.vs_world.specs.Played.{IsRun, began, state_of};
+ghost use Rattle.vs_world.specs.Began.{start_of};
+ghost use Rattle.vs_world.specs.Counted.{IsNoFault, KeepsCount};
+ghost use Rattle.vs_world.specs.Played.{IsAdvanced, began, state_of};
+ghost use Rattle.vs_world.specs.Restarts.{IsRestartCause};
+ghost use Rattle.vs_world.specs.Steps.{HasRoom, IsStepCause};
+ghost use Rattle.vs_world.specs.World.{IsKept, IsLengthAt, KeepsDisks, OfDisk, length_of};
 
 use crate::fault::StepFault;
-use std::alloc::Global;
+use crate::opening::Opening;
+use crate::steps::{can_restart, play, play_restart};
 use std::marker::Model;
-use vs_base::NoMemory;
-use vs_config::Config;
-use vs_core::{Core, CoreFault, new_states, safe_runs};
-use vs_event::{Event, Reason, Trace};
-use vs_machine::given_inputs;
-use vs_script::Scripts;
+use vs_base::SetNo;
+use vs_core::{Core, safe_runs};
+use vs_disk::Disk;
+use vs_event::{Event, Reason, RestartBy, Trace};
+use vs_machine::steered_posts;
+use vs_stores::Stores;
 
-/// A cluster, and the list of all its events: the state is where they lead from a new cluster. No copy of the
-/// configuration and the scripts is kept, since no event changes them.
+/// A cluster, the journal of each set, what it began with, and the list of all its events: the state is where they lead from
+/// the beginning.
 #[derive(Drop)]
-pub struct World {
-    core: Core,
-    events: Trace,
+pub struct World<D: Disk + Drop> {
+    pub(crate) core: Core,
+    pub(crate) stores: Stores<D>,
+    pub(crate) opening: Opening,
+    pub(crate) events: Trace,
 }
 
-impl Model for World {
-    ghost use Rattle.vs_world.specs.Played.{Played, IsRun};
+impl<D: Disk + Drop> Model for World<D> {
+    ghost use Rattle.vs_world.specs.World as world;
+    ghost use Rattle.vs_world.specs.Whole.{IsWhole, shown};
 
-    ghost Value = { Played };
+    ghost Value = { world.World D };
 
-    ghost view = { λ w. record { tables = w.core.state; events = w.events.items } };
+    ghost view = { λ w. shown w.core w.events w.opening w.stores };
 
-    ghost invariant = { λ w. IsRun (record { tables = w.core.state; events = w.events.items }) };
+    ghost invariant = { λ w. IsWhole w.core w.events w.opening w.stores };
 }
 
-/// A new cluster.
-fn new_core(alloc: Global, config: &Config, scripts: Scripts) -> Result<Core, NoMemory>
-    requires { IsLawful (configuration config.now) (script.scripts scripts) }
-    ensures opening { IfOk result (λ core. means core
-        ≡ opening (configuration config.now) (script.scripts scripts) (booted (configuration config.now))) }
-    ensures coherent { OnOk result (IsOpening (configuration config.now) (script.scripts scripts) (booted (configuration config.now))) }
-{
-    let states = new_states(alloc, config)?;
-    match Core::new(config, scripts, states) {
-        Ok(core) => Ok(core),
-        Err(CoreFault::NoMemory) => Err(NoMemory),
-        Err(CoreFault::Incoherent { .. }) => unreachable!(),
-    }
-}
-
-/// Carries out an event that is possible, and adds it to the list. All memory is taken first.
-fn carry_out(core: &mut Core, events: &mut Trace, event: &Event) -> Result<(), NoMemory>
-    requires { verdict (step (means core.old) event.now) ≡ Ok tt }
-    ensures step { OnOk result (step (means core.old) event.now ≡ Ok (means core.new)) }
-    ensures events { OnOk result (events.new.items ≡ events.old.items ++ event.now ∷ []) }
-    ensures same { OnErr result (means core.new ≡ means core.old) }
-    ensures none { OnErr result (events.new.items ≡ events.old.items) }
-    ensures event { OnOk result (IsSafeEvent (means core.old) event.now (means core.new)) }
-    ensures safe { OnOk result (IsSafe (means core.new)) }
-{
-    events.reserve()?;
-    core.reserve_for(event)?;
-    events.push(*event);
-    core.apply(event);
-    Ok(())
-}
-
-impl World {
-    /// A new cluster, in which nothing has happened yet: all buckets are active and without rows, shared out among the sets by
-    /// their weights.
-    pub fn open(alloc: Global, config: Config, scripts: Scripts) -> Result<World, NoMemory>
-        requires { IsLawful (configuration config) (script.scripts scripts) }
-        ensures start { IfOk result (λ world. began world
-            ≡ opening (configuration config) (script.scripts scripts) (booted (configuration config))) }
-        ensures state { IfOk result (λ world. state_of world ≡ began world) }
-        ensures events { IfOk result (λ world. world.events ≡ []) }
-    {
-        let core = new_core(alloc, &config, scripts)?;
-        Ok(World {
-            core,
-            events: Trace::new(alloc),
-        })
-    }
-
+impl<D: Disk + Drop> World<D> {
     /// The cluster.
     pub fn core(&self) -> &Core
-        ensures state { means result.now ≡ state_of self.now }
-        ensures run { IsRun self.now }
+        ensures state { means result.now ≡ state_of self.now.played }
+        ensures kept { IsKept D.told self.now }
     {
         &self.core
     }
 
     /// All events, in the order in which they happened.
     pub fn trace(&self) -> &Trace
-        ensures events { result.now.items ≡ self.now.events }
-        ensures run { IsRun self.now }
+        ensures events { result.now.items ≡ self.now.played.events }
     {
         &self.events
     }
 
-    /// Carries out an event, and adds it to the list. All memory is taken first.
+    /// What it began with.
+    pub fn opening(&self) -> &Opening
+        ensures { result.now ≡ self.now.played.opening }
+    {
+        &self.opening
+    }
+
+    /// The greatest length that a journal may have, in bytes.
+    pub fn limit(&self) -> u64
+        ensures { result ≡ (began self.now.played).limit }
+    {
+        self.opening.limit()
+    }
+
+    /// The length of the journal of a set, in bytes, with the gate that ends it. A change that is pending isn't counted. That of
+    /// a set that is up is the length of what its disk reads as.
+    pub fn journal_len(&self, set: SetNo) -> u64
+        requires { has_set (state_of self.now.played) set ≡ true }
+        ensures length { result ≡ min (length_of self.now set) (2 ^ 64 - 1) }
+        ensures journal { (state_of self.now.played).up set ≡ true → IsLengthAt D.told self.now set }
+        ensures reserved { OfDisk self.now set (λ it. result ≤ (D.told it).reserved) }
+    {
+        self.stores.journal_len(set)
+    }
+
+    /// Carries out an event, and adds it to the list. All memory is taken first; then the change that the event records, if
+    /// any, is written to the journal of its set, and then the event is applied. A restart that is given makes the journal of
+    /// its set fit it: a kept change that the journal lacks is appended, and one that isn't kept is taken out.
     pub fn step(&mut self, event: Event) -> Result<(), StepFault>
-        ensures step { OnOk result (step (state_of self.old) event ≡ Ok (state_of self.new)) }
-        ensures events { OnOk result (self.new.events ≡ self.old.events ++ event ∷ []) }
-        ensures start { began self.new ≡ began self.old }
+        ensures ok { OnOk result (IsAdvanced self.old.played self.new.played event) }
+        ensures room { OnOk result (HasRoom self.old event) }
 
-        // It is refused with the reason exactly where it can't happen, and then nothing changes.
-        ensures refused { (reason : Reason)
-            → (result ≡ Err (StepFault.NotNow reason)) ↔ (step (state_of self.old) event ≡ Err reason) }
-        ensures same { OnErr result (state_of self.new ≡ state_of self.old) }
-        ensures none { OnErr result (self.new.events ≡ self.old.events) }
+        // It is refused with the reason exactly where it can't happen.
+        ensures refused { (reason : Reason) → (result ≡ Err (StepFault.NotNow reason))
+            ↔ (step (state_of self.old.played) event ≡ Err reason) }
+        ensures cause { IfErr result (IsStepCause D.told self.old self.new event) }
+        ensures length { (x : ℕ) → result ≡ Err (StepFault.Full x) → IsLengthAt D.told self.new x }
+        ensures disks { KeepsDisks D.told self.old self.new event }
+        ensures kept { IsKept D.told self.new }
+        ensures counted { IsNoFault event → KeepsCount D.told self.old self.new }
 
-        // What is promised of every run holds of this event, and of the state after it.
-        ensures event { OnOk result (IsSafeEvent (state_of self.old) event (state_of self.new)) }
-        ensures safe { OnOk result (IsSafe (state_of self.new)) }
-
-        // Of the whole list too, whatever the answer.
-        ensures run { IsSafeRun (began self.new) self.new.events }
+        // What is promised of every run holds of this event, of the state after it, and of the whole list, whatever the answer.
+        ensures event { OnOk result
+            (IsSafeEvent (state_of self.old.played) event (state_of self.new.played)) }
+        ensures safe { IsSafe (state_of self.new.played) }
+        ensures run { IsSafeRun (start_of (began self.new.played)) self.new.played.events }
     {
         safe_runs();
-        given_inputs();
+        steered_posts();
         if let Err(reason) = self.core.can(&event) {
             return Err(StepFault::NotNow(reason));
         }
-        carry_out(&mut self.core, &mut self.events, &event)?;
-        Ok(())
+        play(
+            &mut self.core,
+            &mut self.stores,
+            &mut self.events,
+            &self.opening,
+            event,
+        )
+    }
+
+    /// Starts a set again as its journal shows: a pending change that the journal has is kept. It answers whether one was. A
+    /// set that is up only has the command answered.
+    pub fn restart(&mut self, set: SetNo, by: RestartBy) -> Result<bool, StepFault>
+        ensures ok { IfOk result (λ kept.
+            IsAdvanced self.old.played self.new.played (events.Restart set kept by)) }
+        ensures refused { (reason : Reason) → (result ≡ Err (StepFault.NotNow reason))
+            ↔ (step (state_of self.old.played) (events.Restart set false by) ≡ Err reason) }
+        ensures cause { IfErr result (IsRestartCause D.told self.old self.new set by) }
+        ensures disks { KeepsDisks D.told self.old self.new (events.Restart set false by) }
+        ensures kept { IsKept D.told self.new }
+        ensures counted { KeepsCount D.told self.old self.new }
+        ensures safe { IsSafe (state_of self.new.played) }
+        ensures run { IsSafeRun (start_of (began self.new.played)) self.new.played.events }
+    {
+        safe_runs();
+        steered_posts();
+        if let Err(reason) = can_restart(&self.core, set, &by) {
+            return Err(StepFault::NotNow(reason));
+        }
+        play_restart(
+            &mut self.core,
+            &mut self.stores,
+            &mut self.events,
+            &self.opening,
+            set,
+            by,
+        )
+    }
+
+    /// All 32 disks, those of the sets first. It takes no memory.
+    pub fn close(self) -> Vec<D>
+        ensures disks { result.items ≡ self.disks }
+        ensures kept { IsKept D.told self }
+    {
+        let World { stores, .. } = self;
+        stores.close()
     }
 }

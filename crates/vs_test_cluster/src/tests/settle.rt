@@ -3,18 +3,19 @@
 ghost use Rattle.std.specs.Prelude.{◌≡◌, [], ◌∷◌, length, map, IfOk};
 ghost use Rattle.vs_script.specs.declared.command.Command.TheVariants as command;
 
-use crate::config;
+use crate::{config, plain_disks};
 use std::alloc::Global;
 use std::marker::Brand;
 use std::process::Abort;
 use std::sync::ledger::{Blank, Ledger};
 use std::test::Fail;
 use vs_base::{BucketId, NoMemory, OpNo, SetNo};
+use vs_disk::PlainDisk;
 use vs_event::Event;
 use vs_script::{ClientCalls, Command, Commands, OperatorCommands, Scripts};
-use vs_settle::{Steps, can_settle, settle};
+use vs_settle::{Steps, settle};
 use vs_space::Status;
-use vs_survey::settled;
+use vs_survey::{finished, settled};
 use vs_world::World;
 
 fn commands(alloc: Global, command: Command) -> Result<Commands, NoMemory>
@@ -46,7 +47,7 @@ fn scripts<R: Abort>(rt: &R, alloc: Global) -> Result<Scripts, NoMemory>
 }
 
 /// Whether all these events can happen.
-fn play(world: &mut World, events: &[Event]) -> bool {
+fn play(world: &mut World<PlainDisk>, events: &[Event]) -> bool {
     for event in events {
         if world.step(*event).is_err() {
             return false;
@@ -58,28 +59,36 @@ fn play(world: &mut World, events: &[Event]) -> bool {
 /// Settles a cluster, counts its ticks in a new ledger, and reads them: each is an event more on the list.
 fn settle_counted<R: Abort, L: Ledger>(
     rt: &R,
-    world: &mut World,
+    world: &mut World<PlainDisk>,
     blank: Blank,
 ) -> Result<u64, NoMemory>
     requires name { blank.name ≡ L.name }
     requires parts { blank.parts ≡ L.parts }
     requires some { blank.parts ≡ 1 }
 {
-    assert!(rt; can_settle(world), "all is answered, and both sets are up");
+    if !finished(world.core()) {
+        panic!(rt; "not all is answered");
+    }
     let before = world.trace().len();
     let mut steps = Steps::<L>::new(blank);
-    settle(world, &mut steps)?;
-    Ok(world.trace().len() - before)
+    match settle(world, &mut steps) {
+        Ok(()) => Ok(world.trace().len() - before),
+        Err(_) => Err(NoMemory),
+    }
 }
 
 /// A cluster in which a transfer of bucket 3 was given up half way.
-fn interrupted<R: Abort>(rt: &R, alloc: Global) -> Result<World, Fail> {
+fn interrupted<R: Abort>(rt: &R, alloc: Global) -> Result<World<PlainDisk>, Fail> {
     let one = SetNo::new(1).expect(rt, "1 is a set");
     let two = SetNo::new(2).expect(rt, "2 is a set");
     let three = BucketId::new(3).expect(rt, "3 is a bucket");
     let sender = OpNo::new(1).expect(rt, "1 is an operator");
     let closer = OpNo::new(2).expect(rt, "2 is an operator");
-    let mut world = World::open(alloc, config(alloc)?, scripts(rt, alloc)?)?;
+    let scripts = scripts(rt, alloc)?;
+    let opened = World::open(alloc, config(alloc)?, scripts, plain_disks(alloc)?, 1 << 30);
+    let Ok(mut world) = opened else {
+        return Err(NoMemory.into());
+    };
     let events = [
         Event::Start(sender),
         Event::Freeze(one, three),
@@ -93,7 +102,7 @@ fn interrupted<R: Abort>(rt: &R, alloc: Global) -> Result<World, Fail> {
 }
 
 /// What the two sets have of bucket 3.
-fn entries<R: Abort>(rt: &R, world: &World) -> [Option<Status>; 2] {
+fn entries<R: Abort>(rt: &R, world: &World<PlainDisk>) -> [Option<Status>; 2] {
     let one = SetNo::new(1).expect(rt, "1 is a set");
     let two = SetNo::new(2).expect(rt, "2 is a set");
     let three = BucketId::new(3).expect(rt, "3 is a bucket");

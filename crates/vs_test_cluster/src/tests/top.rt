@@ -1,5 +1,6 @@
 //! Plays on a host each of whose calls fails in turn.
 
+use crate::plain_disks;
 use std::alloc::{AllocError, Global};
 use std::test::Fail;
 use vs_host::{MemHost, NamedFile};
@@ -43,7 +44,8 @@ fn played(alloc: Global, events: &[u8], failing: u64) -> Result<(u8, MemHost), A
         file(alloc, "script", SCRIPT)?,
     ]?;
     let mut host = MemHost::new(alloc, files, vec![in alloc; failing]?);
-    let status = play_main(&words, &mut host);
+    let mut disks = plain_disks(alloc)?;
+    let status = play_main(&words, &mut host, &mut disks);
     Ok((status, host))
 }
 

@@ -26,7 +26,15 @@ fn a_file_reads_back_what_was_written(rt: HostRuntime) -> Result<(), Fail> {
     assert_eq!(rt; disk.read(1, &mut into), Ok(5));
     assert_eq!(rt; &into, b"bcXYZ...");
     assert_eq!(rt; disk.faults(), 0);
-    let _shared = shared(disk);
+
+    let same = String::from_str(rt.alloc(), "./disk.bin")?;
+    let mut second = FileDisk::new(rt, same);
+    assert_eq!(rt; second.open(), Err(DiskOpen::Failed));
+    assert_eq!(rt; second.faults(), 1);
+    assert_eq!(rt; disk.len(), Ok(6));
+    drop(shared(disk));
+    assert!(rt; second.open().is_ok());
+    assert_eq!(rt; second.len(), Ok(6));
 
     let none = String::from_str(rt.alloc(), "no_folder/disk.bin")?;
     let mut disk = FileDisk::new(rt, none);

@@ -10,11 +10,11 @@ use Rattle.vs_core.proofs.boot.new_states.Goals as goal
 pub states_of-requires : goal.states_of-requires
 states_of-requires c =
     let all = are_shares (configuration c.args.config.now) c.requires.sets c.requires.buckets in
-    omega (arith, ap sum (c.deref.ensures.value ∙ c.in_ok-shares.ensures), all.all, c.requires.buckets.1)
+    omega (arith, ap sum (c.deref.ensures.value ∙ c.in_ok-shares.ensures.shares), all.all, c.requires.buckets.1)
 
 -- the shares are those of the configuration
 shared : (c : goal.After-drop-shares) → c.deref.result.now ≡ shares_of (configuration c.args.config.now)
-shared c = c.deref.ensures.value ∙ c.in_ok-shares.ensures
+shared c = c.deref.ensures.value ∙ c.in_ok-shares.ensures.shares
 
 pub returns-clause-states : goal.returns-clause-states
 returns-clause-states c = IfOk-weaker c.states_of.result _ _ (λ ds made. held_is (configuration c.args.config.now) ds.items (subst (λ ns. AreNewStates 1 ns ds.items) (shared c) made)) c.states_of.ensures

@@ -32,8 +32,8 @@ returns-in_err-trace-clause-good g c = λ good.
     (c.in_err-trace.ensures.good good.events
     (good_after c.args.names.now.events.now (GivesEvents c.args.built) good.events (g.H.Host.told c.args.host.now) (g.H.Host.told c.read_config_file.new.host) c.in_ok-config.ensures.reads.host good.events_file))
 
-pub read_script_files-requires : goal.read_script_files-requires
-read_script_files-requires g c = λ k d below. rw (c.in_ok-trace.ensures.host.files.may_read, c.in_ok-config.ensures.reads.host.files.may_read) (c.requires (suc (suc k)) d (omega arith))
+pub read_script_files-requires-clause-names : goal.read_script_files-requires-clause-names
+read_script_files-requires-clause-names g c = λ k d below. rw (c.in_ok-trace.ensures.host.files.may_read, c.in_ok-config.ensures.reads.host.files.may_read) (c.requires (suc (suc k)) d (omega arith))
 
 pub returns-in_err-scripts-clause-good : goal.returns-in_err-scripts-clause-good
 returns-in_err-scripts-clause-good g c = λ good.

@@ -18,7 +18,7 @@ read_script_file-requires g c =
     let names = texts c.args.names.now in
     let within : c.loop-i.i < length names = rw length-map c.loop-i-test.true in
     let name = name_at c.args.names.now c.loop-i.i c.index-names-i.result c.as_str.result.now c.loop-i-test.true c.index-names-i.is c.as_str.ensures.value in
-    may_read_next names _ _ c.loop-i.i c.as_str.result.now c.loop-i.invariant.host c.requires within name
+    may_read_next names _ _ c.loop-i.i c.as_str.result.now c.loop-i.invariant.host c.requires.names within name
 
 pub returns-in_err-script-clause-err : goal.returns-in_err-script-clause-err
 returns-in_err-script-clause-err g c =
@@ -27,7 +27,7 @@ returns-in_err-script-clause-err g c =
     let within : c.loop-i.i < length names = rw length-map c.loop-i-test.true in
     let name = name_at c.args.names.now c.loop-i.i c.index-names-i.result c.as_str.result.now c.loop-i-test.true c.index-names-i.is c.as_str.ensures.value in
     rw (p.1, p.2)
-    (script_cause c.args.built (configuration c.args.config.now) names c.in_err-script.field-0.0 _ _ _ c.loop-i.i (map script c.loop-i.given.items) c.as_str.result.now _ c.loop-i.invariant within name refl c.in_err-script.ensures.reads.err)
+    (script_cause c.args.built (configuration c.args.config.now) names c.in_err-script.field-0.0 _ _ _ c.loop-i.i (map script c.loop-i.given.items) c.as_str.result.now _ c.args.first c.loop-i.invariant within name refl c.in_err-script.ensures.reads.err)
 
 pub returns-in_err-script-clause-good : goal.returns-in_err-script-clause-good
 returns-in_err-script-clause-good g c = λ scripts good.

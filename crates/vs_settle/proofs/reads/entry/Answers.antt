@@ -4,4 +4,4 @@ use Rattle.vs_state.specs.Plain.{plain}
 use Rattle.vs_settle.proofs.reads.entry.Goals as goal
 
 pub returns : goal.returns
-returns c = c.entry.ensures ∙ ap (λ (s : State). (s.bucket c.args.bucket).entry c.args.set) (ap plain c.state.ensures.value ∙ c.core.ensures.state)
+returns g c = c.entry.ensures ∙ ap (λ (s : State). (s.bucket c.args.bucket).entry c.args.set) (ap plain c.state.ensures.value ∙ c.core.ensures.state)

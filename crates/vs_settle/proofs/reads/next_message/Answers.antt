@@ -8,7 +8,7 @@ use Rattle.vs_settle.proofs.Reading.{mapped_some, none_there}
 use Rattle.vs_settle.proofs.reads.next_message.Goals as goal
 
 pub returns-then-is_some : goal.returns-then-is_some
-returns-then-is_some c = (
+returns-then-is_some g c = (
   refl,
   refl,
   ap (λ (s : State). is_some (first_call s c.args.from c.args.to)) (sym (ap plain c.state-state.ensures.value ∙ c.core.ensures.state))
@@ -16,7 +16,7 @@ returns-then-is_some c = (
 )
 
 pub returns-then-is_some-2 : goal.returns-then-is_some-2
-returns-then-is_some-2 c = (
+returns-then-is_some-2 g c = (
   refl,
   refl,
   ap (λ (s : State). is_some (first_reply s c.args.from c.args.to)) (sym (ap plain c.state-state.ensures.value ∙ c.core.ensures.state))
@@ -24,7 +24,7 @@ returns-then-is_some-2 c = (
 )
 
 pub returns : goal.returns
-returns c =
+returns g c =
     let whole = sym (ap plain c.state-state.ensures.value ∙ c.core.ensures.state) in
     record {
       calls = none_there _

@@ -1,8 +1,10 @@
-use Rattle.std.proofs.Common.{◌≡◌, ◌∙◌, ℕ, List, Err, IsTrue, refl, sym, subst, arith}
+use Rattle.std.proofs.Common.{◌≡◌, ◌∙◌, ◌+◌, ◌-◌, ℕ, List, length, Err, IsTrue, refl, sym, subst, arith}
 use Rattle.std.proofs.lemmas.Result.{err_from_is_err_and}
 use Rattle.vs_frame.specs.Scan.{last_body}
 use Rattle.vs_record.specs.States.{durable}
-use Rattle.vs_store.specs.Standing.{state_of}
+use Rattle.vs_store.specs.Replay.{number_in}
+use Rattle.vs_store.specs.Standing.{state_of, change_with}
+use Rattle.vs_store.proofs.Buckets.{begins_within, stepped_within}
 use Rattle.vs_store.proofs.Reading.{begun_so_far, wrong_behind, body_wrong, body_read, count_more, all_read}
 use Rattle.vs_store.proofs.Told.{unwritten_same, unwritten_then}
 use Rattle.vs_store.proofs.replay.replay.Goals as goal
@@ -13,6 +15,7 @@ bodies-init g c =
     record {
       going = c.requires.going;
       few = scan.behind_head;
+      within = begins_within c.args.head.now (durable c.in_ok-state.state) c.requires.head c.in_ok-state.ensures;
       version = refl;
       so_far = λ tells. begun_so_far (g.D.Disk.told scan.disk).reads_as scan.part scan.place c.args.head.now scan.version (durable c.in_ok-state.state) (c.requires.begun tells) c.in_ok-state.ensures;
       unwritten = unwritten_same (g.D.Disk.told scan.disk) (g.met.D.Disk.lawful scan.disk);
@@ -54,6 +57,7 @@ bodies-preserved g c =
     let file = (g.D.Disk.told scan.disk).reads_as in
     record {
       going = (c.in_ok-next.ensures.more more).0;
+      within = stepped_within c.args.head.now.bucket_count (durable c.bodies.state) (scan.place - (5 + length (last_body scan))) (change_with (number_in scan.part c.bodies.count) (last_body scan)) (durable c.add_body.new.state) c.in_ok-count.ensures.step c.bodies.invariant.within;
       few = omega (arith, c.bodies.invariant.few, c.in_ok-next.ensures.later more, c.in_ok-count.ensures.count, count_more scan.part c.bodies.count);
       version = c.next.ensures.version ∙ c.bodies.invariant.version;
       so_far = λ still.

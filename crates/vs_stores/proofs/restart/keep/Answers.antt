@@ -3,9 +3,12 @@ use Rattle.vs_disk.proofs.Runs.{joined_through}
 use Rattle.vs_record.specs.Change.{change as plain_of}
 use Rattle.vs_store.specs.Files.{StandsForSome, taken}
 use Rattle.vs_store.specs.Holding.{Holds}
-use Rattle.vs_store.specs.Store.{told_of, length_with}
+use Rattle.vs_store.specs.Store.{told_of, length_with, IsReady}
 use Rattle.vs_store.proofs.Holding.{may_append}
 use Rattle.vs_store.proofs.Told.{still_leaves}
+use Rattle.vs_disk.specs.Model.{Keeps, LeavesThrough}
+use Rattle.vs_record.specs.Durable.{applied}
+use Rattle.vs_stores.proofs.Lifting.{same_told}
 use Rattle.vs_stores.proofs.Faults.{disk_fault_or_not, full_of}
 use Rattle.vs_stores.proofs.restart.keep.Goals as goal
 
@@ -15,9 +18,6 @@ append-requires-clause-fits g c =
     let a = c.requires.awaits in
     let none = subst (λ (b : Bool). Holds c.reopen.new.self a.head (if b then taken a.state (Some p) else a.state) None) c.in-Ok-false.field-0-test (c.in-Ok-false.ensures.held a.head a.state (Some p) a.holds) in
     may_append c.reopen.new.self a.head a.state p none a.fits
-
-pub returns-in-Ok-true-clause-any_moment : goal.returns-in-Ok-true-clause-any_moment
-returns-in-Ok-true-clause-any_moment g c head d h = still_leaves (told_of c.args.store.now) (told_of c.reopen.new.self) (StandsForSome head d (Some (plain_of c.args.change.now))) c.reopen.ensures.unwritten h.leaves
 
 pub returns-in-Err-clause-any_moment : goal.returns-in-Err-clause-any_moment
 returns-in-Err-clause-any_moment g c head d h = still_leaves (told_of c.args.store.now) (told_of c.reopen.new.self) (StandsForSome head d (Some (plain_of c.args.change.now))) c.reopen.ensures.unwritten h.leaves
@@ -51,3 +51,25 @@ returns-in-Err-append-clause-full g c len is =
     let p = plain_of c.args.change.now in
     let full = c.in-Err-append.ensures.full len (full_of c.in-Err-append.fault c.of_store.result len c.of_store.ensures is) in
     (subst (λ s. len ≡ length_with s p) (sym full.2) full.0, subst (λ n. n < len) c.reopen.ensures.limit full.1)
+
+-- the change is there, and the append that failed is forgotten
+pub returns-in-Ok-true-clause-kept : goal.returns-in-Ok-true-clause-kept
+returns-in-Ok-true-clause-kept g c head d h =
+    let p = plain_of c.args.change.now in
+    let there = subst (λ (b : Bool). Holds c.reopen.new.self head (if b then taken d (Some p) else d) None) c.in-Ok-true.field-0-test (c.in-Ok-true.ensures.held head d (Some p) h) in
+    c.forget_last.ensures.held head (applied d p) there
+
+pub returns-in-Ok-true-clause-any_moment : goal.returns-in-Ok-true-clause-any_moment
+returns-in-Ok-true-clause-any_moment g c head d h =
+    let was = c.args.store.now in
+    let mid = c.reopen.new.self in
+    let P = StandsForSome head d (Some (plain_of c.args.change.now)) in
+    same_told mid c.forget_last.new.self c.forget_last.ensures.disk (λ t. LeavesThrough (told_of was) t P) (still_leaves (told_of was) (told_of mid) P c.reopen.ensures.unwritten h.leaves)
+
+pub returns-in-Ok-true-clause-keeps : goal.returns-in-Ok-true-clause-keeps
+returns-in-Ok-true-clause-keeps g c = same_told c.reopen.new.self c.forget_last.new.self c.forget_last.ensures.disk (Keeps (told_of c.args.store.now)) c.reopen.ensures.unwritten.keeps
+
+pub returns-in-Err-append-clause-ready_full : goal.returns-in-Err-append-clause-ready_full
+returns-in-Err-append-clause-ready_full g c len is =
+    let full = c.in-Err-append.ensures.full len (full_of c.in-Err-append.fault c.of_store.result len c.of_store.ensures is) in
+    subst IsReady (sym full.2) c.in-Ok-false.ensures.ready

@@ -1,24 +1,35 @@
-use Rattle.std.proofs.Common.{◌≡◌, ◌<◌, length, get_or, List, Ok, sym, ap, ◌∙◌, rules}
-use Rattle.vs_config.specs.Configuration.{configuration}
+use Rattle.std.proofs.Common.{◌≡◌, ◌<◌, List, length, get_or, refl, ap, rules}
+use Rattle.std.proofs.lemmas.Option.{slice_get_read}
 use Rattle.vs_event.specs.declared.event.Event.{Event}
-use Rattle.vs_script.specs.Scripts.{scripts}
-use Rattle.vs_top.specs.Plays.{start}
-use Rattle.vs_top.proofs.Runs.{played_more, refused_at}
+use Rattle.vs_top.proofs.Stopping.{played_none, played_more, failed}
 use Rattle.vs_top.proofs.play.play.Goals as goal
 
 pub loop-i-init : goal.loop-i-init
-loop-i-init c = (c.in_ok-world.ensures.start, ap Ok (sym (c.in_ok-world.ensures.state ∙ c.in_ok-world.ensures.start)))
+loop-i-init g c = played_none g.D.Disk.told c.args.world.now c.args.trace.now.items c.requires
 
 pub loop-i-preserved : goal.loop-i-preserved
-loop-i-preserved c =
+loop-i-preserved g c =
     let events : List Event = c.args.trace.now.items in
     let within : c.loop-i.i < length events = search rules in
     let is : c.event-item.result ≡ get_or events c.loop-i.i c.event-item.result = search rules in
-    played_more (start (configuration c.args.config) (scripts c.args.scripts)) events c.loop-i.i c.event-item.result c.loop-i.world c.step.new.self within is c.loop-i.invariant c.in-Ok.ensures.start c.in-Ok.ensures.step
+    played_more g.D.Disk.told c.args.world.now c.loop-i.world c.step.new.self events c.loop-i.i c.event-item.result within is c.loop-i.invariant c.in-Ok.ensures.ok c.in-Ok.ensures.disks.keeps c.in-Ok.ensures.kept.disks
 
-pub returns-in-Err-clause-err : goal.returns-in-Err-clause-err
-returns-in-Err-clause-err c =
+pub returns-in-Err : goal.returns-in-Err
+returns-in-Err g c =
     let events : List Event = c.args.trace.now.items in
     let within : c.loop-i.i < length events = search rules in
-    let is : c.event-item.result ≡ get_or events c.loop-i.i c.event-item.result = search rules in
-    rw c.fault_at.ensures (refused_at (configuration c.args.config) (scripts c.args.scripts) events c.loop-i.i c.event-item.result c.loop-i.world c.in-Err.fault within is c.loop-i.invariant c.in-Err.ensures.refused)
+    let is : c.event-item.result ≡ get_or events c.loop-i.i c.event-item.result = search rules in (
+      c.loop-i.i,
+      c.in-Err.fault,
+      c.fault_at.ensures,
+      record {
+        mid = c.loop-i.world;
+        so_far = c.loop-i.invariant;
+        event = c.event-item.result;
+        there = slice_get_read events (length events) c.loop-i.i c.event-item.result refl within is;
+        refused = λ reason e. (c.in-Err.ensures.refused reason).0 (ap failed e);
+        cause = c.in-Err.ensures.cause;
+        length_is = λ x e. c.in-Err.ensures.length x (ap failed e);
+        keeps = c.in-Err.ensures.disks.keeps;
+      },
+    )

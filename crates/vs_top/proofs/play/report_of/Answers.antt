@@ -8,11 +8,11 @@ use Rattle.vs_world.specs.Played.{state_of}
 use Rattle.vs_top.proofs.play.report_of.Goals as goal
 
 pub report-requires-clause-within : goal.report-requires-clause-within
-report-requires-clause-within c =
+report-requires-clause-within g c =
     let reached = subst IsReached (sym (ap plain c.state.ensures.value)) c.state.ensures.reached in
     (c.every_event.ensures.whole (plain c.state.result.now) reached).1.known
 
-pub returns-clause-text : goal.returns-clause-text
-returns-clause-text c =
-    let is : plain c.state.result.now ≡ state_of c.args.world.now = ap plain c.state.ensures.value ∙ c.core.ensures.state in
+pub returns : goal.returns
+returns g c =
+    let is : plain c.state.result.now ≡ state_of c.args.world.now.played = ap plain c.state.ensures.value ∙ c.core.ensures.state in
     subst (λ (s : State). IfOk c.report.result (λ text. text.items ≡ machine_report.report s)) is c.report.ensures

@@ -5,7 +5,7 @@ use Rattle.vs_record.specs.Change.{change as plain_of}
 use Rattle.vs_store.specs.Files.{StandsForSome}
 use Rattle.vs_store.specs.Holding.{Holds}
 use Rattle.vs_store.specs.Standing.{entry_len}
-use Rattle.vs_store.specs.Store.{disk_of, told_of, length_of, length_with, IsReady}
+use Rattle.vs_store.specs.Store.{disk_of, told_of, length_of, length_with, IsReady, IsCalm}
 use Rattle.vs_stores.specs.Due.{made, awaiting}
 use Rattle.vs_store.proofs.Told.{unwritten_same}
 use Rattle.vs_frame.specs.Unwritten.{IsUnwritten}
@@ -53,6 +53,7 @@ returns-in-Ok-clause-made g c =
     let limit = limit_was stores x i was at c.args.self.now.limit c.args.self.now.limits in
     record {
       ready = λ it e. of_is stores x i was at is IsReady c.in-Ok.ensures.ready it e;
+      calm = λ it e. of_is stores x i was at is IsCalm c.in-Ok.ensures.calm it e;
       holds = λ due none all. turned stores x i was at is due (made (due x) p) all (c.in-Ok.ensures.appended (due x).head (due x).state (subst (Holds was (due x).head (due x).state) none (held stores x i was at due all)));
       length_is = length_now stores x i was at is ∙ c.in-Ok.ensures.length ∙ ap (λ (n : ℕ). n + entry_len p) (sym (length_was stores x i was at));
       room = subst (λ (n : ℕ). n + entry_len p ≤ c.args.self.now.limit) (sym (length_was stores x i was at)) (subst (λ (n : ℕ). length_with was p ≤ n) limit c.in-Ok.ensures.room);
@@ -119,6 +120,7 @@ returns-in-Err-clause-refused g c not_failed =
     record {
       unwritten = of_both stores x i was at is (λ a b. IsUnwritten (told_of a) (told_of b)) unwritten;
       ready = λ it e. of_is stores x i was at is IsReady ready it e;
+      calm = λ calm it e. of_is stores x i was at is IsCalm (c.in-Err.ensures.still_calm not (calm was (at_x stores x i was at))) it e;
       holds = λ due all. still stores x i was at is due all (c.in-Err.ensures.same not (due x).head (due x).state (due x).pending (held stores x i was at due all));
       length_is = length_now stores x i was at is ∙ length ∙ sym (length_was stores x i was at);
     }

@@ -3,7 +3,7 @@ use Rattle.vs_disk.specs.Told.{Failed}
 use Rattle.vs_disk.specs.Model.{Keeps, LeavesThrough}
 use Rattle.vs_store.specs.Files.{StandsForSome}
 use Rattle.vs_store.specs.Holding.{Holds}
-use Rattle.vs_store.specs.Store.{told_of, IsReady}
+use Rattle.vs_store.specs.Store.{told_of, IsReady, IsCalm}
 use Rattle.vs_stores.specs.Due.{decided}
 use Rattle.vs_stores.proofs.Lifting.{found, held, turned, still, of_is, of_both, limits_now, count_now, others_now, on_ok, on_err}
 use Rattle.vs_stores.proofs.stores.Stores.drop_pending.Goals as goal
@@ -41,15 +41,16 @@ returns-clause-dropped g c =
     (h (due x).head (due x).state p (subst (Holds was (due x).head (due x).state) awaits (held stores x i was at due all))))
 
 pub returns-clause-still : goal.returns-clause-still
-returns-clause-still g c p due awaits all =
+returns-clause-still g c =
     let stores = c.args.self.now.stores.items in
     let x = c.args.set in
     let i = c.place_of.result in
     let was = c.index_mut-store.result.now in
     let at = found stores x i was c.place_of.ensures c.requires.has c.index_mut-store.ensures.value in
     let is = c.take_out.new.store in
+    on_err c.take_out.result _ _ c.take_out.ensures.still (λ h p due awaits all.
     still stores x i was at is due all
-    (subst (Holds is (due x).head (due x).state) (sym awaits) (c.take_out.ensures.still (due x).head (due x).state p (subst (Holds was (due x).head (due x).state) awaits (held stores x i was at due all))))
+    (subst (Holds is (due x).head (due x).state) (sym awaits) (h (due x).head (due x).state p (subst (Holds was (due x).head (due x).state) awaits (held stores x i was at due all)))))
 
 pub returns-clause-failed : goal.returns-clause-failed
 returns-clause-failed g c =
@@ -86,3 +87,13 @@ returns-clause-others g c =
       limit = refl;
       keeps = of_both stores x i was at is (λ a b. Keeps (told_of a) (told_of b)) c.take_out.ensures.keeps;
     }
+
+pub returns-clause-calm : goal.returns-clause-calm
+returns-clause-calm g c =
+    let stores = c.args.self.now.stores.items in
+    let x = c.args.set in
+    let i = c.place_of.result in
+    let was = c.index_mut-store.result.now in
+    let at = found stores x i was c.place_of.ensures c.requires.has c.index_mut-store.ensures.value in
+    let is = c.take_out.new.store in
+    on_ok c.take_out.result _ _ c.take_out.ensures.calm (λ h it e. of_is stores x i was at is IsCalm h it e)

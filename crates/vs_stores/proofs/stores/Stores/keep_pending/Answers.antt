@@ -5,7 +5,7 @@ use Rattle.vs_record.specs.Change.{Change, change as plain_of}
 use Rattle.vs_store.specs.Files.{StandsForSome, taken}
 use Rattle.vs_store.specs.Holding.{Holds}
 use Rattle.vs_store.specs.Standing.{entry_len}
-use Rattle.vs_store.specs.Store.{told_of, IsReady}
+use Rattle.vs_store.specs.Store.{told_of, IsReady, IsCalm}
 use Rattle.vs_stores.specs.Due.{decided}
 use Rattle.vs_stores.proofs.Lifting.{found, at_x, held, limit_was, turned, still, of_is, of_both, length_now, limits_now, count_now, others_now, on_ok, on_err}
 use Rattle.vs_stores.proofs.stores.Stores.keep_pending.Goals as goal
@@ -116,3 +116,23 @@ returns-clause-others g c =
       limit = refl;
       keeps = of_both stores x i was at is (λ a b. Keeps (told_of a) (told_of b)) c.keep.ensures.keeps;
     }
+
+pub returns-clause-calm : goal.returns-clause-calm
+returns-clause-calm g c =
+    let stores = c.args.self.now.stores.items in
+    let x = c.args.set in
+    let i = c.place_of.result in
+    let was = c.index_mut-store.result.now in
+    let at = found stores x i was c.place_of.ensures c.requires.has c.index_mut-store.ensures.value in
+    let is = c.keep.new.store in
+    on_ok c.keep.result _ _ c.keep.ensures.calm (λ h it e. of_is stores x i was at is IsCalm h it e)
+
+pub returns-clause-ready_full : goal.returns-clause-ready_full
+returns-clause-ready_full g c len e it at_it =
+    let stores = c.args.self.now.stores.items in
+    let x = c.args.set in
+    let i = c.place_of.result in
+    let was = c.index_mut-store.result.now in
+    let at = found stores x i was c.place_of.ensures c.requires.has c.index_mut-store.ensures.value in
+    let is = c.keep.new.store in
+    of_is stores x i was at is IsReady (c.keep.ensures.ready_full len e) it at_it

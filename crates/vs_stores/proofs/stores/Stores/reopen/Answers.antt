@@ -3,10 +3,10 @@ use Rattle.vs_disk.specs.Told.{Failed}
 use Rattle.vs_disk.specs.Model.{Keeps, LeavesThrough}
 use Rattle.vs_store.specs.Files.{StandsForSome}
 use Rattle.vs_store.specs.Holding.{Holds}
-use Rattle.vs_store.specs.Store.{told_of, IsReady}
+use Rattle.vs_store.specs.Store.{told_of, IsReady, IsCalm}
 use Rattle.vs_stores.specs.Due.{decided}
 use Rattle.vs_store.proofs.Told.{still_leaves}
-use Rattle.vs_stores.proofs.Lifting.{found, held, turned, still, of_is, of_both, limits_now, count_now, others_now}
+use Rattle.vs_stores.proofs.Lifting.{found, at_x, held, turned, still, of_is, of_both, limits_now, count_now, others_now}
 use Rattle.vs_stores.proofs.stores.Stores.reopen.Goals as goal
 
 pub invariant_of-self-clause-limits : goal.invariant_of-self-clause-limits
@@ -122,3 +122,43 @@ returns-in-Err-clause-others g c =
       limit = refl;
       keeps = of_both stores x i was at is (λ a b. Keeps (told_of a) (told_of b)) c.reopen.ensures.unwritten.keeps;
     }
+
+pub returns-in-Ok-clause-none : goal.returns-in-Ok-clause-none
+returns-in-Ok-clause-none g c calm =
+    let stores = c.args.self.now.stores.items in
+    let x = c.args.set in
+    let i = c.place_of.result in
+    let was = c.index_mut-store.result.now in
+    let at = found stores x i was c.place_of.ensures c.requires.has c.index_mut-store.ensures.value in
+    let is = c.reopen.new.self in
+    c.in-Ok.ensures.none (calm was (at_x stores x i was at))
+
+pub returns-in-Ok-clause-calm : goal.returns-in-Ok-clause-calm
+returns-in-Ok-clause-calm g c shut it e =
+    let stores = c.args.self.now.stores.items in
+    let x = c.args.set in
+    let i = c.place_of.result in
+    let was = c.index_mut-store.result.now in
+    let at = found stores x i was c.place_of.ensures c.requires.has c.index_mut-store.ensures.value in
+    let is = c.reopen.new.self in
+    of_is stores x i was at is IsCalm (c.in-Ok.ensures.calm shut) it e
+
+pub returns-in-Ok-clause-still_calm : goal.returns-in-Ok-clause-still_calm
+returns-in-Ok-clause-still_calm g c calm it e =
+    let stores = c.args.self.now.stores.items in
+    let x = c.args.set in
+    let i = c.place_of.result in
+    let was = c.index_mut-store.result.now in
+    let at = found stores x i was c.place_of.ensures c.requires.has c.index_mut-store.ensures.value in
+    let is = c.reopen.new.self in
+    of_is stores x i was at is IsCalm (c.reopen.ensures.still_calm (calm was (at_x stores x i was at))) it e
+
+pub returns-in-Err-clause-still_calm : goal.returns-in-Err-clause-still_calm
+returns-in-Err-clause-still_calm g c calm it e =
+    let stores = c.args.self.now.stores.items in
+    let x = c.args.set in
+    let i = c.place_of.result in
+    let was = c.index_mut-store.result.now in
+    let at = found stores x i was c.place_of.ensures c.requires.has c.index_mut-store.ensures.value in
+    let is = c.reopen.new.self in
+    of_is stores x i was at is IsCalm (c.reopen.ensures.still_calm (calm was (at_x stores x i was at))) it e

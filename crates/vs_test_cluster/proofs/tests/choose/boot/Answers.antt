@@ -13,16 +13,16 @@ new_core-requires c =
     let law = c.in_ok-config.ensures.lawful in
     let together = c.in_ok-scripts.ensures.together in
     let P : Script → Type 0 = IsLawfulScript config.bucket_count (length config.sets) in
-    let moves = c.in_ok-moves.moves in
-    let stops = c.in_ok-stops.stops in
-    let one : c.push.new.self.items ≡ moves ∷ [] =
-    c.in_ok-push.ensures.items ∙ ap (λ (xs : List declared.Script). xs ++ moves ∷ []) c.new-given.ensures.items in
-    let both : c.push-2.new.self.items ≡ moves ∷ stops ∷ [] =
-    c.in_ok-push-2.ensures.items ∙ ap (λ (xs : List declared.Script). xs ++ stops ∷ []) one in
+    let first = c.in_ok-first.first in
+    let second = c.in_ok-second.second in
+    let one : c.push.new.self.items ≡ first ∷ [] =
+    c.in_ok-push.ensures.items ∙ ap (λ (xs : List declared.Script). xs ++ first ∷ []) c.new-given.ensures.items in
+    let both : c.push-2.new.self.items ≡ first ∷ second ∷ [] =
+    c.in_ok-push-2.ensures.items ∙ ap (λ (xs : List declared.Script). xs ++ second ∷ []) one in
     let none : All P [] = λ k d below. absurd (omega arith) in
-    let each : All P (script moves ∷ script stops ∷ []) =
-    All-cons P (script moves) (script stops ∷ []) c.in_ok-moves.ensures.lawful
-    (All-cons P (script stops) [] c.in_ok-stops.ensures.lawful none) in
+    let each : All P (script first ∷ script second ∷ []) =
+    All-cons P (script first) (script second ∷ []) c.in_ok-first.ensures.lawful
+    (All-cons P (script second) [] c.in_ok-second.ensures.lawful none) in
     let given = subst (λ (xs : List declared.Script). All P (map script xs)) (sym both) each in
     let all = c.in_ok-scripts.ensures.lawful config.bucket_count (length config.sets) given in
     record {

@@ -1,76 +1,73 @@
-use Rattle.std.proofs.Common.{◌≡◌, Ok, Err, sym, ap, subst, ◌∙◌}
-use Rattle.std.proofs.lemmas.Result.{err_from_is_err_and}
-use Rattle.vs_core.specs.Safety.{IsSafeEvent, IsSafeRun}
+use Rattle.std.proofs.Common.{◌≡◌, Ok, Err, OnOk, refl, sym, subst, ◌∙◌}
+use Rattle.vs_core.specs.Safety.{IsSafe, IsSafeEvent, IsSafeRun}
 use Rattle.vs_machine.specs.Step.{step}
 use Rattle.vs_state.specs.Guard.{verdict}
-use Rattle.vs_state.specs.Plain.{plain}
-use Rattle.vs_world.specs.Played.{Played, began, start_of, state_of}
-use Rattle.vs_world.proofs.Playing.{same_start, is_run_more, is_run_same, is_safe_run, refused_is, not_refused}
+use Rattle.vs_world.specs.Began.{start_of}
+use Rattle.vs_world.specs.Counted.{KeepsCount}
+use Rattle.vs_world.specs.Played.{began, state_of}
+use Rattle.vs_world.specs.Steps.{HasRoom}
+use Rattle.vs_world.specs.Whole.{played_in, shown}
+use Rattle.vs_world.specs.World.{World, IsKept}
+use Rattle.vs_world.proofs.Counting.{step_counted}
+use Rattle.vs_world.proofs.Kept.{kept, same_disks}
+use Rattle.vs_world.proofs.Reserving.{safe_run}
+use Rattle.vs_world.proofs.Safe.{safe_state, safe_event, refused_now, not_refused_now}
 use Rattle.vs_world.proofs.world.World.step.Goals as goal
 
--- ---- the event can't happen
+-- ---- it can't happen
 
 pub returns-in-Err-clause-refused : goal.returns-in-Err-clause-refused
-returns-in-Err-clause-refused c =
-    let is = subst (λ (p : Played). verdict (step (state_of p) c.args.event) ≡ Err c.in-Err.reason) c.self.view_is (sym c.in-Err.ensures) in
-    refused_is (step (state_of c.args.self.now) c.args.event) c.in-Err.reason is
+returns-in-Err-clause-refused g c =
+    let is = subst (λ (v : World g.row.D.Denot). verdict (step (state_of v.played) c.args.event) ≡ Err c.in-Err.reason) c.self.view_is (sym c.in-Err.ensures) in
+    refused_now (Unit {0}) (step (state_of c.args.self.now.played) c.args.event) c.in-Err.reason is
+
+pub returns-in-Err-clause-disks : goal.returns-in-Err-clause-disks
+returns-in-Err-clause-disks g c =
+    let w = c.self.inside in
+    same_disks g.D.Disk.told g.met.D.Disk.lawful c.args.self.now c.args.self.now (subst (λ (v : World g.row.D.Denot). IsKept g.D.Disk.told v) c.self.view_is (kept w.core w.events w.opening w.stores c.self.invariant)) refl c.args.event
+
+pub returns-in-Err-clause-kept : goal.returns-in-Err-clause-kept
+returns-in-Err-clause-kept g c =
+    let w = c.self.inside in
+    subst (λ (v : World g.row.D.Denot). IsKept g.D.Disk.told v) c.self.view_is (kept w.core w.events w.opening w.stores c.self.invariant)
+
+pub returns-in-Err-clause-safe : goal.returns-in-Err-clause-safe
+returns-in-Err-clause-safe g c =
+    let w = c.self.inside in
+    subst (λ (v : World g.row.D.Denot). IsSafe (state_of v.played)) c.self.view_is (safe_state c.safe_runs.ensures.states (played_in w.core w.events w.opening) c.self.invariant.run)
 
 pub returns-in-Err-clause-run : goal.returns-in-Err-clause-run
-returns-in-Err-clause-run c = subst (λ (p : Played). IsSafeRun (began p) p.events) c.self.view_is (is_safe_run c.safe_runs.ensures.runs _ c.self.invariant)
+returns-in-Err-clause-run g c =
+    let w = c.self.inside in
+    subst (λ (v : World g.row.D.Denot). IsSafeRun (start_of (began v.played)) v.played.events) c.self.view_is (safe_run c.safe_runs.ensures.runs (played_in w.core w.events w.opening) c.self.invariant.run)
 
--- ---- there is no memory
-
-pub invariant_of-self : goal.invariant_of-self
-invariant_of-self c = is_run_same _ _ c.self.invariant c.in_err-carry_out.ensures.same c.in_err-carry_out.ensures.none
-
-pub returns-in_err-carry_out-clause-start : goal.returns-in_err-carry_out-clause-start
-returns-in_err-carry_out-clause-start c = ap start_of (c.in_err-carry_out.ensures.same ∙ ap state_of c.self.view_is)
-
-pub returns-in_err-carry_out-clause-same : goal.returns-in_err-carry_out-clause-same
-returns-in_err-carry_out-clause-same c =
-    let p = err_from_is_err_and c.from_residual.result c.from_residual.ensures.1 in
-    rw p.1 (c.in_err-carry_out.ensures.same ∙ ap state_of c.self.view_is)
-
-pub returns-in_err-carry_out-clause-refused : goal.returns-in_err-carry_out-clause-refused
-returns-in_err-carry_out-clause-refused c =
-    let p = err_from_is_err_and c.from_residual.result c.from_residual.ensures.1 in
-    let is = subst (λ (p : Played). verdict (step (state_of p) c.args.event) ≡ Ok tt) c.self.view_is (sym c.in_default.ensures) in
-    not_refused (step (state_of c.args.self.now) c.args.event) c.from_residual.result is (λ q h. cc (p.1, p.2, h))
-
-pub returns-in_err-carry_out-clause-run : goal.returns-in_err-carry_out-clause-run
-returns-in_err-carry_out-clause-run c =
-    let before : Played = record { tables = c.self.inside.core.state; events = c.self.inside.events.items } in
-    let after : Played = record { tables = c.carry_out.new.core.state; events = c.carry_out.new.events.items } in
-    is_safe_run c.safe_runs.ensures.runs after (is_run_same before after c.self.invariant c.in_err-carry_out.ensures.same c.in_err-carry_out.ensures.none)
-
--- ---- it happens
-
-pub invariant_of-self-2 : goal.invariant_of-self-2
-invariant_of-self-2 c =
-    let steps = c.in_ok-carry_out.ensures.step in
-    is_run_more _ _ c.args.event c.self.invariant (c.given_inputs.ensures.kept (plain c.self.inside.core.state) (plain c.carry_out.new.core.state) c.args.event steps) steps c.in_ok-carry_out.ensures.events
-
-pub returns-clause-step : goal.returns-clause-step
-returns-clause-step c = subst (λ (p : Played). step (state_of p) c.args.event ≡ Ok (plain c.carry_out.new.core.state)) c.self.view_is c.in_ok-carry_out.ensures.step
-
-pub returns-clause-start : goal.returns-clause-start
-returns-clause-start c =
-    let old = plain c.self.inside.core.state in
-    let new = plain c.carry_out.new.core.state in
-    same_start old new (c.given_inputs.ensures.kept old new c.args.event c.in_ok-carry_out.ensures.step) ∙ ap start_of (ap state_of c.self.view_is)
+-- ---- it was tried
 
 pub returns-clause-refused : goal.returns-clause-refused
-returns-clause-refused c =
-    let is = subst (λ (p : Played). verdict (step (state_of p) c.args.event) ≡ Ok tt) c.self.view_is (sym c.in_default.ensures) in
-    not_refused (step (state_of c.args.self.now) c.args.event) (Ok tt) is (λ q h. cc h)
+returns-clause-refused g c =
+    let is = subst (λ (v : World g.row.D.Denot). verdict (step (state_of v.played) c.args.event) ≡ Ok tt) c.self.view_is (sym c.in_default.ensures) in
+    not_refused_now (step (state_of c.args.self.now.played) c.args.event) c.play.result is c.play.ensures.other
 
-pub returns-clause-event : goal.returns-clause-event
-returns-clause-event c = subst (λ (p : Played). IsSafeEvent (state_of p) c.args.event (plain c.carry_out.new.core.state)) c.self.view_is c.in_ok-carry_out.ensures.event
+pub returns-clause-kept : goal.returns-clause-kept
+returns-clause-kept g c = kept c.play.new.core c.play.new.events c.self.inside.opening c.play.new.stores c.play.ensures.whole
+
+pub returns-clause-safe : goal.returns-clause-safe
+returns-clause-safe g c = safe_state c.safe_runs.ensures.states (played_in c.play.new.core c.play.new.events c.self.inside.opening) c.play.ensures.whole.run
 
 pub returns-clause-run : goal.returns-clause-run
-returns-clause-run c =
-    let before : Played = record { tables = c.self.inside.core.state; events = c.self.inside.events.items } in
-    let after : Played = record { tables = c.carry_out.new.core.state; events = c.carry_out.new.events.items } in
-    let steps = c.in_ok-carry_out.ensures.step in
-    is_safe_run c.safe_runs.ensures.runs after
-    (is_run_more before after c.args.event c.self.invariant (c.given_inputs.ensures.kept (plain c.self.inside.core.state) (plain c.carry_out.new.core.state) c.args.event steps) steps c.in_ok-carry_out.ensures.events)
+returns-clause-run g c = safe_run c.safe_runs.ensures.runs (played_in c.play.new.core c.play.new.events c.self.inside.opening) c.play.ensures.whole.run
+
+pub returns-clause-counted : goal.returns-clause-counted
+returns-clause-counted g c is_none =
+    subst (λ (v : World g.row.D.Denot). KeepsCount g.D.Disk.told v (shown c.play.new.core c.play.new.events c.self.inside.opening c.play.new.stores)) c.self.view_is
+    (step_counted g.D.Disk.told (shown c.self.inside.core c.self.inside.events c.self.inside.opening c.self.inside.stores) (shown c.play.new.core c.play.new.events c.self.inside.opening c.play.new.stores) (c.self.invariant.disks ∙ sym c.play.ensures.whole.disks) c.play.ensures.disks.keeps
+    c.steered_posts.ensures.numbers c.args.event c.play.result c.play.ensures.ok c.play.ensures.cause is_none)
+
+pub returns-clause-room : goal.returns-clause-room
+returns-clause-room g c = subst (λ (v : World g.row.D.Denot). OnOk c.play.result (HasRoom v c.args.event)) c.self.view_is c.play.ensures.has_room
+
+pub returns-clause-event : goal.returns-clause-event
+returns-clause-event g c =
+    let w = c.self.inside in
+    subst (λ (v : World g.row.D.Denot). OnOk c.play.result (IsSafeEvent (state_of v.played) c.args.event (state_of (played_in c.play.new.core c.play.new.events c.self.inside.opening)))) c.self.view_is
+    (safe_event c.play.result (played_in w.core w.events w.opening) (played_in c.play.new.core c.play.new.events c.self.inside.opening) c.args.event c.safe_runs.ensures.events c.self.invariant.run c.play.ensures.ok)

@@ -1,0 +1,6 @@
+use Rattle.vs_script.specs.Calls.{calls}
+use Rattle.vs_script.proofs.Same.{AreSameBelow}
+use Rattle.vs_script.proofs.scripts.same_clients.Given as goal
+
+abbrev pub invariant-loop-i : goal.invariant-loop-i
+invariant-loop-i l = AreSameBelow (λ c. calls c.items) l.i l.some.items l.others.items
