@@ -19,10 +19,10 @@ pub struct Verbs {
 
 /// The commands of the program.
 pub const BUILT: Verbs = Verbs {
-    run: false,
+    run: true,
     play: true,
     generate: false,
-    reads: false,
+    reads: true,
     plan: true,
     audit: true,
     info: true,

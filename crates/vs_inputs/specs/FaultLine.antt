@@ -8,7 +8,7 @@ use Rattle.vs_config.specs.Key.{name_of}
 use Rattle.vs_inputs.specs.declared.fault.InputFault.{InputFault}
 use Rattle.vs_inputs.specs.declared.fault.InputFault.TheVariants.{Text, Read, NoMemory}
 use Rattle.vs_inputs.specs.declared.fault.TextFault.{TextFault}
-use Rattle.vs_inputs.specs.declared.fault.TextFault.TheVariants.{TooLong, NotBuilt, Config, Event, Script, Gather}
+use Rattle.vs_inputs.specs.declared.fault.TextFault.TheVariants.{TooLong, Config, Event, Script, Gather}
 use Rattle.vs_inputs.specs.KindNames.{config_kind, script_kind, gather_kind}
 
 -- the key, in the set of this number or, at 0, outside the sets
@@ -28,7 +28,6 @@ config_key kind set key = key_at set key
 -- what follows the input
 abbrev pub text_fault : TextFault → List ℕ
 text_fault TooLong = codes ": TooLong"
-text_fault NotBuilt = codes ": NotBuilt"
 text_fault (Config kind set key) = codes ": " ++ config_kind kind ++ config_key kind set key
 text_fault (Event line) = codes " line " ++ decimal line ++ codes ": BadEvent"
 text_fault (Script kind line) = codes " line " ++ decimal line ++ codes ": " ++ script_kind kind

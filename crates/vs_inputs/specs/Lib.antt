@@ -1,7 +1,6 @@
 pub use Rattle.vs_host.specs.Told
 pub mod Words
 pub mod FileNames
-pub mod Built
 pub mod Files
 pub mod Places
 pub mod Gives

@@ -4,7 +4,6 @@ use Rattle.vs_config.specs.Configuration.{Configuration}
 use Rattle.vs_host.specs.Told.{Told}
 use Rattle.vs_script.specs.Gathering.{gathering_of}
 use Rattle.vs_script.specs.Scripts.{Script, Scripts}
-use Rattle.vs_inputs.specs.declared.built.Built.{Built}
 use Rattle.vs_inputs.specs.declared.fault.InputFault.{InputFault}
 use Rattle.vs_inputs.specs.Places.{config_place, first_run_script_place}
 use Rattle.vs_inputs.specs.Files.{Files, HasText}
@@ -30,38 +29,38 @@ HasRunConfig files names config = HasText files names.config (λ text. GivesConf
 
 -- ---- what they give together
 
-pub record AreRunInputs (b : Built) (files : Files) (names : RunNames) (config : Configuration) (scripts : Scripts) : Type 0 where
+pub record AreRunInputs (files : Files) (names : RunNames) (config : Configuration) (scripts : Scripts) : Type 0 where
   pub config_file : HasRunConfig files names config
   pub each : List Script
-  pub script_files : HaveScripts b config files names.scripts each
+  pub script_files : HaveScripts config files names.scripts each
   pub gathered : gathering_of each ≡ Ok scripts
 
 -- ---- why they don't: the first file that didn't give its value, or the scripts together
 
-pub record IsRunScriptsCause (b : Built) (names : RunNames) (fault : InputFault) (old new : Told) : Type 0 where
+pub record IsRunScriptsCause (names : RunNames) (fault : InputFault) (old new : Told) : Type 0 where
   pub config : Configuration
   pub config_file : HasRunConfig old.file names config
-  pub script : IsScriptCause b config first_run_script_place names.scripts fault old new
+  pub script : IsScriptCause config first_run_script_place names.scripts fault old new
 
-pub record IsRunGatherCause (b : Built) (names : RunNames) (fault : InputFault) (files : Files) : Type 0 where
+pub record IsRunGatherCause (names : RunNames) (fault : InputFault) (files : Files) : Type 0 where
   pub config : Configuration
   pub config_file : HasRunConfig files names config
   pub scripts : List Script
-  pub script_files : HaveScripts b config files names.scripts scripts
+  pub script_files : HaveScripts config files names.scripts scripts
   pub refused : IsGatherFault config_place fault scripts
 
-abbrev pub IsRunInputCause : Built → RunNames → InputFault → Told → Told → Type 0
-IsRunInputCause b names fault old new =
+abbrev pub IsRunInputCause : RunNames → InputFault → Told → Told → Type 0
+IsRunInputCause names fault old new =
     IsFileCause fault config_place names.config GivesConfig old new
-    ⊎ IsRunScriptsCause b names fault old new
-    ⊎ IsRunGatherCause b names fault old.file
+    ⊎ IsRunScriptsCause names fault old new
+    ⊎ IsRunGatherCause names fault old.file
 
--- ---- each file is told, no longer than a text may be, in its form and built, and the scripts may run together
+-- ---- each file is told, no longer than a text may be, in its form, and the scripts may run together
 
-pub record AreGoodRunInputs (b : Built) (files : Files) (names : RunNames) : Type 0 where
+pub record AreGoodRunInputs (files : Files) (names : RunNames) : Type 0 where
   pub config : Configuration
   pub config_file : IsGood files names.config GivesConfig config
   pub each : List Script
-  pub script_files : AreGoodScripts b config files names.scripts each
+  pub script_files : AreGoodScripts config files names.scripts each
   pub scripts : Scripts
   pub gathered : gathering_of each ≡ Ok scripts

@@ -9,8 +9,6 @@ use vs_script::{GatherKind, ScriptKind};
 pub enum TextFault {
     /// The file is longer than a text may be.
     TooLong,
-    /// The text is in its form, and asks for what isn't built.
-    NotBuilt,
     /// Of a configuration: the kind, the set's number or 0, and the key.
     Config(ConfigKind, u8, ConfigKey),
     /// Of events: the number of the first bad line, from 1.

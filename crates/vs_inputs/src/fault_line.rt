@@ -97,7 +97,6 @@ fn put_text_fault(line: &mut Items<u8>, fault: TextFault)
 {
     match fault {
         TextFault::TooLong => put(line, b": TooLong"),
-        TextFault::NotBuilt => put(line, b": NotBuilt"),
         TextFault::Config(kind, set, key) => put_config(line, kind, set, key),
         TextFault::Event(number) => put_numbered(line, b" line ", number, b": ", b"BadEvent"),
         TextFault::Script(kind, number) => put_numbered(

@@ -9,7 +9,6 @@ ghost use Rattle.vs_inputs.specs.FileNames.{names_of};
 ghost use Rattle.vs_inputs.specs.Inputs.{MayReadFiles, AreInputs, AreLawful, IsGatherFault, IsInputCause, AreGood};
 ghost use Rattle.vs_inputs.specs.Reading.{OnlyReads, IsOutside};
 
-use crate::built::Built;
 use crate::config::read_config_file;
 use crate::events::read_events_file;
 use crate::fault::{InputFault, TextFault};
@@ -55,12 +54,10 @@ pub(crate) fn gather_scripts(
 }
 
 /// Reads the files of a command in their order: the configuration, the events, and each script; then
-/// the scripts are gathered. Each text is read as soon as its file was, and what it asks for beyond
-/// what is built is told at once. The first fault in this order is the one that is told.
+/// the scripts are gathered. Each text is read as soon as its file was. The first fault in this order is the one that is told.
 pub fn read_inputs<H: Host>(
     alloc: Global,
     host: &mut H,
-    built: Built,
     names: &FileNames,
 ) -> Result<Inputs, InputFault>
     requires { MayReadFiles (H.told host.old) (names_of names.now) }
@@ -69,7 +66,7 @@ pub fn read_inputs<H: Host>(
     ensures host { OnlyReads (H.told host.old) (H.told host.new) }
 
     // The inputs are those that the files give.
-    ensures ok { IfOk result (λ i. AreInputs built (H.told host.old).file (names_of names.now)
+    ensures ok { IfOk result (λ i. AreInputs (H.told host.old).file (names_of names.now)
         (configuration i.config) i.trace.items (scripts i.scripts)) }
 
     // A cluster may run them.
@@ -77,27 +74,20 @@ pub fn read_inputs<H: Host>(
 
     // The fault is the first.
     ensures err { IfErr result (λ fault.
-        IsInputCause built (names_of names.now) fault (H.told host.old) (H.told host.new)) }
+        IsInputCause (names_of names.now) fault (H.told host.old) (H.told host.new)) }
 
     // Good files are taken.
-    ensures good { AreGood built (H.told host.old).file (names_of names.now)
+    ensures good { AreGood (H.told host.old).file (names_of names.now)
         → IfErr result IsOutside }
 
     // And what is read of them is what they give.
-    ensures same { (good : AreGood built (H.told host.old).file (names_of names.now))
+    ensures same { (good : AreGood (H.told host.old).file (names_of names.now))
         → IfOk result (λ i. (configuration i.config ≡ good.config)
         × (i.trace.items ≡ good.events) × (scripts i.scripts ≡ good.scripts)) }
 {
     let config = read_config_file(alloc, host, names.config)?;
-    let trace = read_events_file(alloc, host, built, names.events)?;
-    let given = read_script_files(
-        alloc,
-        host,
-        built,
-        &config,
-        names.scripts,
-        FIRST_SCRIPT_PLACE,
-    )?;
+    let trace = read_events_file(alloc, host, names.events)?;
+    let given = read_script_files(alloc, host, &config, names.scripts, FIRST_SCRIPT_PLACE)?;
     let scripts = gather_scripts(alloc, given, EVENTS_PLACE)?;
     Ok(Inputs {
         config,

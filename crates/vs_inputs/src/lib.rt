@@ -2,7 +2,6 @@
 //! first thing that is wrong with them.
 #![tactic(auto)]
 
-mod built;
 mod config;
 mod events;
 mod fault;
@@ -16,7 +15,6 @@ mod run_inputs;
 mod scripts;
 mod words;
 
-pub use built::Built;
 pub use config::read_config_file;
 pub use fault::{InputFault, TextFault};
 pub use fault_line::{LONGEST_LINE, fault_buffer, put_fault};

@@ -8,7 +8,6 @@ ghost use Rattle.vs_inputs.specs.Reading.{OnlyReads, IsOutside};
 ghost use Rattle.vs_inputs.specs.RunInputs.{MayReadRunFiles, AreRunInputs, IsRunInputCause, AreGoodRunInputs, run_names};
 ghost use Rattle.vs_inputs.specs.Words.{texts};
 
-use crate::built::Built;
 use crate::config::read_config_file;
 use crate::fault::InputFault;
 use crate::inputs::gather_scripts;
@@ -26,12 +25,11 @@ pub struct RunInputs {
     pub scripts: Scripts,
 }
 
-/// Reads a configuration and then each script; then the scripts are gathered. Each text is read as soon as its file was, and
-/// what it asks for beyond what is built is told at once. The first fault in this order is the one that is told.
+/// Reads a configuration and then each script; then the scripts are gathered. Each text is read as soon as its file was.
+/// The first fault in this order is the one that is told.
 pub fn read_run_inputs<H: Host>(
     alloc: Global,
     host: &mut H,
-    built: Built,
     config: &str,
     files: &[String],
 ) -> Result<RunInputs, InputFault>
@@ -41,27 +39,27 @@ pub fn read_run_inputs<H: Host>(
     ensures host { OnlyReads (H.told host.old) (H.told host.new) }
 
     // The inputs are those that the files give.
-    ensures ok { IfOk result (λ i. AreRunInputs built (H.told host.old).file
+    ensures ok { IfOk result (λ i. AreRunInputs (H.told host.old).file
         (run_names config.now (texts files.now)) (configuration i.config) (scripts i.scripts)) }
 
     // A cluster may run them.
     ensures lawful { IfOk result (λ i. AreLawful (configuration i.config) (scripts i.scripts)) }
 
     // The fault is the first.
-    ensures err { IfErr result (λ fault. IsRunInputCause built
+    ensures err { IfErr result (λ fault. IsRunInputCause
         (run_names config.now (texts files.now)) fault (H.told host.old) (H.told host.new)) }
 
     // Good files are taken.
-    ensures good { AreGoodRunInputs built (H.told host.old).file
+    ensures good { AreGoodRunInputs (H.told host.old).file
         (run_names config.now (texts files.now)) → IfErr result IsOutside }
 
     // And what is read of them is what they give.
-    ensures same { (good : AreGoodRunInputs built (H.told host.old).file
+    ensures same { (good : AreGoodRunInputs (H.told host.old).file
         (run_names config.now (texts files.now))) → IfOk result (λ i.
         (configuration i.config ≡ good.config) × (scripts i.scripts ≡ good.scripts)) }
 {
     let config = read_config_file(alloc, host, config)?;
-    let given = read_script_files(alloc, host, built, &config, files, FIRST_RUN_SCRIPT_PLACE)?;
+    let given = read_script_files(alloc, host, &config, files, FIRST_RUN_SCRIPT_PLACE)?;
     let scripts = gather_scripts(alloc, given, CONFIG_PLACE)?;
     Ok(RunInputs { config, scripts })
 }

@@ -13,6 +13,7 @@ use Rattle.vs_ending.specs.Ending.{OnlyLogs}
 use Rattle.vs_ending.specs.Lines.{memory_line}
 use Rattle.vs_host.specs.Told.{Told}
 use Rattle.vs_plan.specs.declared.fault.PlanFault.TheVariants as plan
+use Rattle.vs_reads.specs.declared.fault.ReadsFault.TheVariants as reads
 use Rattle.vs_top.specs.Endings.{between}
 use Rattle.vs_top.specs.declared.fault.Fault.TheVariants as faults
 use Rattle.vs_main.specs.Endings.{AreNoCommand, Ends}
@@ -32,9 +33,9 @@ module _ {D : Type 0} (tells : D → disk.Told) (disks : List D) (old new : Told
   no_memory words None status is nine told = none_told status (inr (nine, told))
   no_memory words (Some (command.Play config events files)) status is nine told = inr (faults.NoMemory, record { status_is = nine; cause = told.out; logged = told.logged })
   no_memory words (Some (command.Info config)) status is nine told = inr (faults.NoMemory, nine, record { cause = told.out; logged = told.logged })
-  no_memory words (Some (command.Run config files)) status is nine told = absurd (not_built words (command.Run config files) is refl)
+  no_memory words (Some (command.Run config files)) status is nine told = inr (faults.NoMemory, nine, (told.out, told.logged))
   no_memory words (Some (command.Gen number)) status is nine told = absurd (not_built words (command.Gen number) is refl)
-  no_memory words (Some (command.Reads config rows files)) status is nine told = absurd (not_built words (command.Reads config rows files) is refl)
+  no_memory words (Some (command.Reads config rows files)) status is nine told = record { host = inr (reads.NoMemory, nine, record { cause = told.out; logged = told.logged }); disks = refl }
   no_memory words (Some (command.Plan config counts)) status is nine told = record { host = inr (plan.NoMemory, nine, record { cause = told.out; logged = told.logged }); disks = refl }
   no_memory words (Some (command.Audit report)) status is nine told = record { host = inr (audit.NoMemory, nine, record { cause = told.out; logged = told.logged }); disks = refl }
 
@@ -46,9 +47,9 @@ module _ {D : Type 0} (tells : D → disk.Told) (disks : List D) (old new : Told
     λ good none. subst (Contains (0 ∷ 9 ∷ [])) (sym nine) (1, lit< tt, refl),
   )
   no_memory_well (Some (command.Info config)) status nine = λ good none. subst (Contains (0 ∷ 9 ∷ [])) (sym nine) (1, lit< tt, refl)
-  no_memory_well (Some (command.Run config files)) status nine = tt
+  no_memory_well (Some (command.Run config files)) status nine = λ good none. subst (Contains (0 ∷ 9 ∷ [])) (sym nine) (1, lit< tt, refl)
   no_memory_well (Some (command.Gen number)) status nine = tt
-  no_memory_well (Some (command.Reads config rows files)) status nine = tt
+  no_memory_well (Some (command.Reads config rows files)) status nine = λ good none. subst (Contains (0 ∷ 9 ∷ [])) (sym nine) (1, lit< tt, refl)
   no_memory_well (Some (command.Plan config counts)) status nine = λ good none. subst (Contains (0 ∷ 9 ∷ [])) (sym nine) (1, lit< tt, refl)
   no_memory_well (Some (command.Audit report)) status nine = record {
     legal = λ is none. subst (Contains (0 ∷ 9 ∷ [])) (sym nine) (1, lit< tt, refl);

@@ -16,6 +16,13 @@ use Rattle.vs_plan.specs.Lines as plan_lines
 use Rattle.vs_plan.specs.Names.{Names as PlanNames}
 use Rattle.vs_plan.specs.declared.fault.PlanFault.{PlanFault}
 use Rattle.vs_plan.specs.declared.fault.PlanFault.TheVariants as plan_faults
+use Rattle.vs_reads.specs.Endings as reads
+use Rattle.vs_reads.specs.Lines as reads_lines
+use Rattle.vs_reads.specs.Names.{Names as ReadsNames}
+use Rattle.vs_reads.specs.declared.fault.ReadsFault.{ReadsFault}
+use Rattle.vs_reads.specs.declared.fault.ReadsFault.TheVariants as reads_faults
+use Rattle.vs_inputs.specs.RunInputs.{RunNames}
+use Rattle.vs_run.specs.Endings as run
 use Rattle.vs_top.specs.Endings.{Outside, IsFilesCause}
 use Rattle.vs_top.specs.declared.fault.Fault.{Fault}
 use Rattle.vs_top.specs.declared.fault.Fault.TheVariants as faults
@@ -69,6 +76,36 @@ plan_status : (status : ℕ) (old new : Told) (names : PlanNames) → plan.Ends 
 plan_status status old new names (inl planned) = (subst (Contains statuses) (sym planned.0) (0, lit< tt, refl), λ two. cc (two, planned.0))
 plan_status status old new names (inr (fault, is, by)) = subst (λ (s : ℕ). Contains statuses s × (s ≡ 2 → ⊥)) (sym is) (plan_fault_status fault)
 
+reads_fault_status : (fault : ReadsFault) → Contains statuses (reads_lines.status_of fault) × (reads_lines.status_of fault ≡ 2 → ⊥)
+reads_fault_status (reads_faults.Text k fault) = ((2, lit< tt, refl), λ two. cc (two))
+reads_fault_status (reads_faults.NotReads k) = ((2, lit< tt, refl), λ two. cc (two))
+reads_fault_status (reads_faults.Read k) = ((4, lit< tt, refl), λ two. cc (two))
+reads_fault_status reads_faults.Write = ((5, lit< tt, refl), λ two. cc (two))
+reads_fault_status reads_faults.NoMemory = ((8, lit< tt, refl), λ two. cc (two))
+
+reads_status : (status : ℕ) (old new : Told) (names : ReadsNames) → reads.Ends status old new names → Contains statuses status × (status ≡ 2 → ⊥)
+reads_status status old new names (inl answered) = (subst (Contains statuses) (sym answered.0) (0, lit< tt, refl), λ two. cc (two, answered.0))
+reads_status status old new names (inr (fault, is, by)) = subst (λ (s : ℕ). Contains statuses s × (s ≡ 2 → ⊥)) (sym is) (reads_fault_status fault)
+
+run_fault_status : {D : Type 0} (fault : Fault) (names : RunNames) (o : Outside D) → run.EndsBy fault names o → Contains statuses (status_of fault) × (status_of fault ≡ 2 → ⊥)
+run_fault_status (faults.Text k fault) names o by = ((2, lit< tt, refl), λ two. cc (two))
+run_fault_status (faults.Read k) names o by = ((4, lit< tt, refl), λ two. cc (two))
+run_fault_status faults.Write names o by = ((5, lit< tt, refl), λ two. cc (two))
+run_fault_status (faults.Disk x) names o by = ((6, lit< tt, refl), λ two. cc (two))
+run_fault_status (faults.Journal x fault wanted) names o by = ((7, lit< tt, refl), λ two. cc (two))
+run_fault_status (faults.Incoherent bucket entries) names o by = ((7, lit< tt, refl), λ two. cc (two))
+run_fault_status faults.NoMemory names o by = ((8, lit< tt, refl), λ two. cc (two))
+run_fault_status (faults.Full x) names o by = ((9, lit< tt, refl), λ two. cc (two))
+run_fault_status faults.Words names o by = absurd by.holds.1
+run_fault_status (faults.Event number reason) names o by = absurd by.holds.1
+
+run_status : {D : Type 0} (status : ℕ) (names : RunNames) (o : Outside D) → run.Ends status names o → Contains statuses status × (status ≡ 2 → ⊥)
+run_status status names o (inl ran) = elim ran.holds [
+  | inl zero ↦ (subst (Contains statuses) (sym zero.0) (0, lit< tt, refl), λ two. cc (two, zero.0))
+  | inr seven ↦ (subst (Contains statuses) (sym seven.0) (6, lit< tt, refl), λ two. cc (two, seven.0))
+]
+run_status status names o (inr (fault, is, by)) = subst (λ (s : ℕ). Contains statuses s × (s ≡ 2 → ⊥)) (sym is) (run_fault_status fault names o by)
+
 audit_fault_status : (fault : ReportFault) → Contains statuses (audit_lines.status_of fault) × (audit_lines.status_of fault ≡ 2 → ⊥)
 audit_fault_status audit_faults.TooLong = ((2, lit< tt, refl), λ two. cc (two))
 audit_fault_status (audit_faults.BadReport line) = ((2, lit< tt, refl), λ two. cc (two))
@@ -91,9 +128,11 @@ status_in (Some (command.Play config events files)) status o ends =
     let of = play_status status _ o ends in (of.0, λ two. absurd (of.1 two))
 status_in (Some (command.Info config)) status o ends =
     let of = info_status status config o ends in (of.0, λ two. absurd (of.1 two))
-status_in (Some (command.Run config files)) status o ends = absurd ends
+status_in (Some (command.Run config files)) status o ends =
+    let of = run_status status _ o ends in (of.0, λ two. absurd (of.1 two))
 status_in (Some (command.Gen number)) status o ends = absurd ends
-status_in (Some (command.Reads config rows files)) status o ends = absurd ends
+status_in (Some (command.Reads config rows files)) status o ends =
+    let of = reads_status status _ _ _ ends.host in (of.0, λ two. absurd (of.1 two))
 status_in (Some (command.Plan config counts)) status o ends =
     let of = plan_status status _ _ _ ends.host in (of.0, λ two. absurd (of.1 two))
 status_in (Some (command.Audit report)) status o ends =

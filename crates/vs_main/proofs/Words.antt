@@ -1,6 +1,6 @@
 -- What is known of words that are a command.
 use Rattle.std.proofs.Common.{◌≡◌, ◌≤◌, ℕ, Bool, true, false, List, [], ◌∷◌, length, Option, Some, None, refl, sym, ap, ◌∙◌, subst, arith, cond, option_map}
-use Rattle.std.specs.Prelude.{IsTrue, find, option_and_then}
+use Rattle.std.specs.Prelude.{All, IsTrue, find, option_and_then}
 use Rattle.std.specs.List.{list_all}
 use Rattle.std.specs.Str.{bytes_eq}
 use Rattle.std.proofs.lemmas.Slice.Eq.{bytes_eq-Decides}
@@ -120,6 +120,18 @@ plan_may_read host verbs words config counts is may =
     let words_are : words ≡ name_of Plan ∷ config ∷ counts ∷ [] = s.words_are ∙ ap (λ (r : List Text). name_of Plan ∷ r) s.after in
     let all : MayRead host (name_of Plan ∷ config ∷ counts ∷ []) = subst (MayRead host) words_are may in
     (all 0 [] (omega arith), all 1 [] (omega arith))
+
+pub run_may_read : (host : Told) (verbs : Verbs) (words : List Text) (config : Text) (files : List Text) → command_in verbs words ≡ Some (command.Run config files) → MayRead host words → All (λ name. IsTrue (host.may_read name)) (config ∷ files)
+run_may_read host verbs words config files is may =
+    let s = spelled verbs words (command.Run config files) is in
+    let words_are : words ≡ name_of Run ∷ config ∷ files = s.words_are ∙ ap (λ (r : List Text). name_of Run ∷ r) s.after.0 in
+    subst (MayRead host) words_are may
+
+pub reads_may_read : (host : Told) (verbs : Verbs) (words : List Text) (config rows : Text) (files : List Text) → command_in verbs words ≡ Some (command.Reads config rows files) → MayRead host words → All (λ name. IsTrue (host.may_read name)) (config ∷ rows ∷ files)
+reads_may_read host verbs words config rows files is may =
+    let s = spelled verbs words (command.Reads config rows files) is in
+    let words_are : words ≡ name_of Reads ∷ config ∷ rows ∷ files = s.words_are ∙ ap (λ (r : List Text). name_of Reads ∷ r) s.after.0 in
+    subst (MayRead host) words_are may
 
 pub audit_may_read : (host : Told) (verbs : Verbs) (words : List Text) (report : Text) → command_in verbs words ≡ Some (command.Audit report) → MayRead host words → IsTrue (host.may_read report)
 audit_may_read host verbs words report is may =

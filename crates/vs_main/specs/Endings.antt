@@ -3,6 +3,7 @@ use Rattle.std.specs.Prelude.{◌≡◌, ◌⊎◌, ℕ, List, [], ◌∷◌, Op
 use Rattle.vs_command.specs.Command.{Command}
 use Rattle.vs_command.specs.Command as command
 use Rattle.vs_command.specs.Usage.{usage}
+use Rattle.vs_command.specs.Word.{Text}
 use Rattle.vs_command.specs.declared.verbs.TheConstants.{BUILT}
 use Rattle.vs_ending.specs.Ending.{IsLogged}
 use Rattle.vs_ending.specs.Lines.{memory_line}
@@ -12,6 +13,10 @@ use Rattle.vs_informing.specs.Endings as info
 use Rattle.vs_inputs.specs.Words.{Names, files}
 use Rattle.vs_plan.specs.Endings as plan
 use Rattle.vs_plan.specs.Names.{files as plan_files}
+use Rattle.vs_reads.specs.Endings as reads
+use Rattle.vs_reads.specs.Names.{Names as ReadsNames}
+use Rattle.vs_inputs.specs.RunInputs.{run_names}
+use Rattle.vs_run.specs.Endings as run
 use Rattle.vs_top.specs.Endings.{Outside, IsUntouched, IsPlayed, IsFilesCause}
 use Rattle.vs_top.specs.Statuses.{status_of, fault_line}
 use Rattle.vs_top.specs.declared.fault.Fault.{Fault}
@@ -42,14 +47,18 @@ pub record WithoutDisks {D : Type 0} (OfHost : Told → Told → Type 0) (o : Ou
   pub host : OfHost o.old o.new
   pub disks : o.after ≡ o.before
 
+-- the names of the files of `reads`
+abbrev pub reads_files : Text → Text → List Text → ReadsNames
+reads_files config rows scripts = record { config = config; rows = rows; files = scripts }
+
 -- ---- each command; those that aren't built are none
 
 abbrev pub EndsBy : {D : Type 0} → Command → ℕ → Outside D → Type 0
 EndsBy (command.Play config events scripts) status o = PlayEnds status (files config events scripts) o
 EndsBy (command.Info config) status o = info.Ends status o config
-EndsBy (command.Run config scripts) status o = ⊥
+EndsBy (command.Run config scripts) status o = run.Ends status (run_names config scripts) o
 EndsBy (command.Gen number) status o = ⊥
-EndsBy (command.Reads config rows scripts) status o = ⊥
+EndsBy (command.Reads config rows scripts) status o = WithoutDisks (λ old new. reads.Ends status old new (reads_files config rows scripts)) o
 EndsBy (command.Plan config counts) status o = WithoutDisks (λ old new. plan.Ends status old new (plan_files config counts)) o
 EndsBy (command.Audit report) status o = WithoutDisks (λ old new. audit.Ends status old new report) o
 

@@ -11,23 +11,30 @@ ghost use Rattle.vs_top.specs.Endings.{between};
 
 use crate::usage::log_usage;
 use std::alloc::Global;
+use std::sync::Wait;
+use std::thread::Threads;
 use vs_auditing::audit_report;
 use vs_base::NoMemory;
 use vs_command::{BUILT, Command, command_of};
 use vs_disk::Disk;
 use vs_ending::log_memory;
+use vs_gate::Gate;
 use vs_host::Host;
 use vs_informing::inform;
 use vs_plan::plan;
+use vs_reads::reads;
+use vs_run::run_files;
 use vs_top::play_main;
 
 /// Carries out the command that the words are.
-fn carry_out<H: Host, D: Disk + Drop>(
+fn carry_out<H: Host, D: Disk + Drop + Send, G: Gate + Sync, R: Threads + Wait + Sync>(
+    rt: &R,
     alloc: Global,
     asked: Command,
     words: &[String],
     host: &mut H,
     disks: &mut Vec<D>,
+    gate: &G,
 ) -> u8
     requires asks { command_in BUILT (texts words.now) ≡ Some (command asked) }
     requires built { IsTrue (has BUILT (verb_of (command asked))) }
@@ -41,22 +48,31 @@ fn carry_out<H: Host, D: Disk + Drop>(
     ensures count { length disks.new.items ≡ 32 }
 {
     match asked {
+        Command::Run { config, files } => { run_files(rt, alloc, config, files, host, disks, gate) }
         Command::Play { .. } => play_main(words, host, disks),
+        Command::Reads {
+            config,
+            rows,
+            files,
+        } => reads(rt, alloc, config, rows, files, host, gate),
         Command::Plan { config, counts } => plan(alloc, config, counts, host),
         Command::Audit { report } => audit_report(alloc, report, host),
         Command::Info { config } => inform(alloc, config, host, disks),
-        Command::Run { .. } | Command::Gen(_) | Command::Reads { .. } => unreachable!(),
+        Command::Gen(_) => unreachable!(),
     }
 }
 
 /// The program: carries out the command that the words after its name are, and answers the status with which it ends. It puts
 /// out what the command says, and logs one line where the status isn't 0. Words that are no command are answered by a line that
-/// names the commands. Of the 32 disks the first has the journal of set 1; they come back in their places.
-pub fn vshard_main<H: Host, D: Disk + Drop>(
+/// names the commands. Of the 32 disks the first has the journal of set 1; they come back in their places. At the gate threads may be
+/// held up.
+pub fn vshard_main<H: Host, D: Disk + Drop + Send, G: Gate + Sync, R: Threads + Wait + Sync>(
+    rt: &R,
     alloc: Global,
     words: &[String],
     host: &mut H,
     disks: &mut Vec<D>,
+    gate: &G,
 ) -> u8
     requires words { MayRead (H.told host.old) (texts words.now) }
     requires disks { length disks.old.items ≡ 32 }
@@ -82,7 +98,7 @@ pub fn vshard_main<H: Host, D: Disk + Drop>(
         Err(NoMemory) => return log_memory(host),
     };
     match found {
-        Some(asked) => carry_out(alloc, asked, words, host, disks),
+        Some(asked) => carry_out(rt, alloc, asked, words, host, disks, gate),
         None => log_usage(alloc, host),
     }
 }

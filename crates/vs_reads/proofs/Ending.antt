@@ -8,7 +8,6 @@ use Rattle.vs_ending.specs.Ending.{IsLogged, KeepsHost, NoneRose, OnlyLogs}
 use Rattle.vs_host.specs.declared.fault.HostFailed.{HostFailed}
 use Rattle.vs_host.specs.Told.{Told}
 use Rattle.vs_host.specs.Calls.{PutsOut}
-use Rattle.vs_inputs.specs.declared.built.Built.TheVariants.{Everything}
 use Rattle.vs_inputs.specs.declared.fault.InputFault.{InputFault}
 use Rattle.vs_inputs.specs.declared.fault.InputFault.TheVariants as input
 use Rattle.vs_inputs.specs.declared.fault.TextFault.{TextFault}
@@ -99,9 +98,9 @@ config_later faults.NoMemory names old mid new taken same cause = tt
 
 calls_later : (fault : ReadsFault) (mode : Mode) (config : Configuration) (place : ℕ) (name : List ℕ) (old mid new : Told) → new.taken ≡ mid.taken → new.read_faults ≡ mid.read_faults → IsCallsCause fault mode config place name old mid
     → IsCallsCause fault mode config place name old new
-calls_later (faults.Text k fault) mode config place name old mid new taken same cause = file_later (input.Text k fault) place name (GivesScript Everything config) old mid new taken same cause
+calls_later (faults.Text k fault) mode config place name old mid new taken same cause = file_later (input.Text k fault) place name (GivesScript config) old mid new taken same cause
 calls_later (faults.NotReads k) mode config place name old mid new taken same cause = cause
-calls_later (faults.Read k) mode config place name old mid new taken same cause = file_later (input.Read k) place name (GivesScript Everything config) old mid new taken same cause
+calls_later (faults.Read k) mode config place name old mid new taken same cause = file_later (input.Read k) place name (GivesScript config) old mid new taken same cause
 calls_later faults.Write mode config place name old mid new taken same cause = cause
 calls_later faults.NoMemory mode config place name old mid new taken same cause = tt
 

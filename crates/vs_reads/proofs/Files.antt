@@ -7,7 +7,6 @@ use Rattle.vs_base.specs.declared.numbers.Mode.{Mode}
 use Rattle.vs_base.specs.declared.numbers.Mode.TheVariants.{Ro}
 use Rattle.vs_config.specs.Configuration.{Configuration}
 use Rattle.vs_host.specs.Told.{Told}
-use Rattle.vs_inputs.specs.declared.built.Built.TheVariants.{Everything}
 use Rattle.vs_inputs.specs.declared.fault.InputFault.{InputFault}
 use Rattle.vs_inputs.specs.declared.fault.InputFault.TheVariants as input
 use Rattle.vs_inputs.specs.Files.{Files}
@@ -35,7 +34,7 @@ config_cause (input.Text k fault) names old new cause = cause
 config_cause (input.Read k) names old new cause = cause
 config_cause input.NoMemory names old new cause = tt
 
-pub script_cause : (fault : InputFault) (mode : Mode) (config : Configuration) (place : ℕ) (name : List ℕ) (old new : Told) → IsFileCause fault place name (GivesScript Everything config) old new
+pub script_cause : (fault : InputFault) (mode : Mode) (config : Configuration) (place : ℕ) (name : List ℕ) (old new : Told) → IsFileCause fault place name (GivesScript config) old new
     → IsCallsCause (from_input fault) mode config place name old new
 script_cause (input.Text k fault) mode config place name old new cause = cause
 script_cause (input.Read k) mode config place name old new cause = cause
@@ -45,9 +44,9 @@ script_cause input.NoMemory mode config place name old new cause = tt
 
 pub calls_before : (fault : ReadsFault) (mode : Mode) (config : Configuration) (place : ℕ) (name : List ℕ) (old mid new : Told) → OnlyReads old mid → IsCallsCause fault mode config place name mid new
     → IsCallsCause fault mode config place name old new
-calls_before (faults.Text k fault) mode config place name old mid new reads cause = cause_before (input.Text k fault) place name (GivesScript Everything config) old mid new reads cause
+calls_before (faults.Text k fault) mode config place name old mid new reads cause = cause_before (input.Text k fault) place name (GivesScript config) old mid new reads cause
 calls_before (faults.NotReads k) mode config place name old mid new reads cause = (cause.0, (cause.1.0, subst (λ (files : Files). HasScript config files name cause.1.0) reads.files.file cause.1.1, cause.1.2))
-calls_before (faults.Read k) mode config place name old mid new reads cause = cause_before (input.Read k) place name (GivesScript Everything config) old mid new reads cause
+calls_before (faults.Read k) mode config place name old mid new reads cause = cause_before (input.Read k) place name (GivesScript config) old mid new reads cause
 calls_before faults.Write mode config place name old mid new reads cause = cause
 calls_before faults.NoMemory mode config place name old mid new reads cause = tt
 
@@ -134,7 +133,7 @@ pub good_reads : (mode : Mode) (config : Configuration) (files : Files) (name : 
     → IfErr r (λ fault. (fault ≡ faults.NotReads place) × ¬ (IsClientOf mode s)) → IfErr r IsOfOutside
 good_reads mode config files name place good s (Ok c) has is err = tt
 good_reads mode config files name place good s (Err e) has is err =
-    let same : s ≡ Client good = same_script Everything config files name s (Client good) has is.file in
+    let same : s ≡ Client good = same_script config files name s (Client good) has is.file in
     absurd (err.1 (rw same is.all))
 
 -- ---- the mode of calls

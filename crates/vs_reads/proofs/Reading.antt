@@ -4,7 +4,6 @@ use Rattle.vs_base.specs.declared.numbers.Mode.{Mode}
 use Rattle.vs_base.specs.declared.numbers.Mode.TheVariants.{Ro, Rw}
 use Rattle.vs_config.specs.Configuration.{Configuration}
 use Rattle.vs_host.specs.Told.{Told}
-use Rattle.vs_inputs.specs.declared.built.Built.TheVariants.{Everything}
 use Rattle.vs_inputs.specs.declared.fault.TextFault.TheVariants as text
 use Rattle.vs_inputs.specs.Files.{Files}
 use Rattle.vs_inputs.specs.Reading.{OnlyReads}
@@ -75,7 +74,7 @@ good_files_as read good names clients old mid same reads are =
 
 same_calls : (mode : Mode) (config : Configuration) (files : Files) (name : List ℕ) (x y : List Call) → HasCalls mode config files name x → IsGoodCalls mode config files name y → x ≡ y
 same_calls mode config files name x y has good =
-    let same : Client x ≡ Client y = same_script Everything config files name (Client x) (Client y) has.file good.file in
+    let same : Client x ≡ Client y = same_script config files name (Client x) (Client y) has.file good.file in
     cc
 
 same_files : (config : Configuration) (files : Files) (names : List (List ℕ)) (xs ys : List (List Call)) → HaveCalls config files names xs → AreGoodCalls config files names ys → xs ≡ ys

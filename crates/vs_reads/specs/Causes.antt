@@ -8,7 +8,6 @@ use Rattle.vs_inputs.specs.declared.fault.InputFault.TheVariants as input
 use Rattle.vs_inputs.specs.declared.fault.TextFault.TheVariants.{Gather}
 use Rattle.vs_inputs.specs.Files.{Files}
 use Rattle.vs_inputs.specs.Gives.{GivesConfig, GivesScript}
-use Rattle.vs_inputs.specs.declared.built.Built.TheVariants.{Everything}
 use Rattle.vs_inputs.specs.Reading.{IsFileCause}
 use Rattle.vs_script.specs.Calls.{Call}
 use Rattle.vs_script.specs.declared.gather_fault.GatherFault.TheVariants.{Bad}
@@ -44,12 +43,12 @@ IsConfigCause NoMemory names old new = ⊤
 -- the file of this place and name gives no calls of this mode
 abbrev pub IsCallsCause : ReadsFault → Mode → Configuration → ℕ → List ℕ → Told → Told → Type 0
 IsCallsCause (Text k fault) mode config place name old new =
-    IsFileCause (input.Text k fault) place name (GivesScript Everything config) old new
+    IsFileCause (input.Text k fault) place name (GivesScript config) old new
 IsCallsCause (NotReads k) mode config place name old new =
     (k ≡ place)
     × ((script : Script) × HasScript config old.file name script × ¬ (IsClientOf mode script))
 IsCallsCause (Read k) mode config place name old new =
-    IsFileCause (input.Read k) place name (GivesScript Everything config) old new
+    IsFileCause (input.Read k) place name (GivesScript config) old new
 IsCallsCause Write mode config place name old new = ⊥
 IsCallsCause NoMemory mode config place name old new = ⊤
 

@@ -3,7 +3,6 @@ use Rattle.std.specs.Prelude.{◌≡◌, ℕ, List, [], ◌∷◌, map, Ok, All,
 use Rattle.vs_base.specs.declared.numbers.Mode.{Mode}
 use Rattle.vs_base.specs.declared.numbers.Mode.TheVariants.{Ro, Rw}
 use Rattle.vs_config.specs.Configuration.{Configuration}
-use Rattle.vs_inputs.specs.declared.built.Built.TheVariants.{Everything}
 use Rattle.vs_inputs.specs.Files.{Files, HasText}
 use Rattle.vs_inputs.specs.Gives.{GivesConfig, GivesScript}
 use Rattle.vs_inputs.specs.Reading.{IsGood}
@@ -17,7 +16,7 @@ HasConfig files names config = HasText files names.config (λ text. GivesConfig 
 
 abbrev pub HasScript : Configuration → Files → List ℕ → Script → Type 0
 HasScript config files name script =
-    HasText files name (λ text. GivesScript Everything config text (Ok script))
+    HasText files name (λ text. GivesScript config text (Ok script))
 
 -- a client's script, all of whose calls have this mode
 abbrev pub IsClientOf : Mode → Script → Type 0
@@ -54,7 +53,7 @@ pub record AreGiven (files : Files) (names : Names) (writes : List Call)
 
 pub record IsGoodCalls (mode : Mode) (config : Configuration) (files : Files) (name : List ℕ)
     (calls : List Call) : Type 0 where
-  pub file : IsGood files name (GivesScript Everything config) (Client calls)
+  pub file : IsGood files name (GivesScript config) (Client calls)
   pub all : IsClientOf mode (Client calls)
 
 abbrev pub AreGoodCalls : Configuration → Files → List (List ℕ) → List (List Call) → Type 0

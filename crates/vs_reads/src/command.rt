@@ -90,7 +90,7 @@ pub fn reads<R: Threads + Wait + Sync, H: Host, G: Gate + Sync>(
     host: &mut H,
     gate: &G,
 ) -> u8
-    requires { MayRead (H.told host.old) (names config.now rows.now files.now) }
+    requires files { MayRead (H.told host.old) (names config.now rows.now files.now) }
 
     // Each status is one of five.
     ensures status { Contains (0 ∷ 3 ∷ 5 ∷ 6 ∷ 9 ∷ []) result }

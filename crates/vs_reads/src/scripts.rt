@@ -19,7 +19,7 @@ use std::alloc::Global;
 use vs_base::{Items, Mode};
 use vs_config::Config;
 use vs_host::Host;
-use vs_inputs::{Built, read_script_file};
+use vs_inputs::read_script_file;
 use vs_script::{Call, Calls, ClientCalls, Script};
 
 /// The place of the first script of reads among the words after the command, from 1.
@@ -76,7 +76,7 @@ pub fn read_calls_file<H: Host>(
     ensures good { (good : List plain.Call) → IsGoodCalls mode (configuration config.now)
         (H.told host.old).file name.now good → IfErr result IsOfOutside }
 {
-    let given = read_script_file(alloc, host, Built::Everything, config, name, place)?;
+    let given = read_script_file(alloc, host, config, name, place)?;
     calls_of(given, mode, place)
 }
 

@@ -2,7 +2,6 @@
 use Rattle.std.proofs.Common.{◌≡◌, ℕ, List, arith, inl, inr}
 use Rattle.std.specs.Prelude.{Result}
 use Rattle.vs_host.specs.Told.{Told}
-use Rattle.vs_inputs.specs.declared.built.Built.{Built}
 use Rattle.vs_inputs.specs.declared.fault.InputFault.{InputFault}
 use Rattle.vs_inputs.specs.declared.fault.InputFault.TheVariants.{Text, Read, NoMemory}
 use Rattle.vs_inputs.specs.declared.fault.TextFault.{TextFault}
@@ -21,11 +20,11 @@ file_cause (Text k fault) place name Gives old mid new taken faults cause = (cau
 file_cause (Read k) place name Gives old mid new taken faults cause = (cause.0, omega (arith, cause.1, faults))
 file_cause NoMemory place name Gives old mid new taken faults cause = tt
 
-pub input_cause : (b : Built) (names : Names) (fault : InputFault) (old mid new : Told) → new.taken ≡ mid.taken → new.read_faults ≡ mid.read_faults → IsInputCause b names fault old mid → IsInputCause b names fault old new
-input_cause b names fault old mid new taken faults (inl config) = inl (file_cause fault _ _ _ old mid new taken faults config)
-input_cause b names fault old mid new taken faults (inr (inl events)) =
+pub input_cause : (names : Names) (fault : InputFault) (old mid new : Told) → new.taken ≡ mid.taken → new.read_faults ≡ mid.read_faults → IsInputCause names fault old mid → IsInputCause names fault old new
+input_cause names fault old mid new taken faults (inl config) = inl (file_cause fault _ _ _ old mid new taken faults config)
+input_cause names fault old mid new taken faults (inr (inl events)) =
     inr (inl (record { config = events.config; config_file = events.config_file; cause = file_cause fault _ _ _ old mid new taken faults events.cause }))
-input_cause b names fault old mid new taken faults (inr (inr (inl scripts))) =
+input_cause names fault old mid new taken faults (inr (inr (inl scripts))) =
     inr (inr (inl (record {
       config = scripts.config;
       config_file = scripts.config_file;
@@ -38,4 +37,4 @@ input_cause b names fault old mid new taken faults (inr (inr (inl scripts))) =
         cause = file_cause fault _ _ _ old mid new taken faults scripts.script.cause;
       };
     })))
-input_cause b names fault old mid new taken faults (inr (inr (inr gather))) = inr (inr (inr gather))
+input_cause names fault old mid new taken faults (inr (inr (inr gather))) = inr (inr (inr gather))

@@ -8,7 +8,6 @@ use Rattle.vs_event.specs.declared.reason.Reason.{Reason}
 use Rattle.vs_host.specs.declared.fault.HostFailed.{HostFailed}
 use Rattle.vs_host.specs.Told.{Told}
 use Rattle.vs_host.specs.Calls.{Logs}
-use Rattle.vs_inputs.specs.declared.built.Built.TheVariants.{Stops}
 use Rattle.vs_inputs.specs.declared.fault.InputFault.TheVariants as input
 use Rattle.vs_inputs.specs.declared.fault.TextFault.{TextFault}
 use Rattle.vs_inputs.specs.Words.{Names, IsCommand}
@@ -62,12 +61,12 @@ module _ {D : Type 0} (tells : D → disk.Told) (before after : List D) where
     pub cause_logged : (fault : Fault) → IsFilesCause fault (between tells old mid before after) names → IsFilesCause fault (between tells old new before after) names
     cause_logged faults.Words c = c
     cause_logged (faults.Text k fault) c = record {
-      cause = input_cause Stops names (input.Text k fault) old mid new logs.taken logs.read_faults c.cause;
+      cause = input_cause names (input.Text k fault) old mid new logs.taken logs.read_faults c.cause;
       untouched = record { out = logs.out ∙ c.untouched.out; disks = c.untouched.disks };
     }
     cause_logged (faults.Event number reason) c = record { given = given_still c.given; refused = c.refused; out = logs.out ∙ c.out }
     cause_logged (faults.Read k) c = record {
-      cause = input_cause Stops names (input.Read k) old mid new logs.taken logs.read_faults c.cause;
+      cause = input_cause names (input.Read k) old mid new logs.taken logs.read_faults c.cause;
       rose = omega (arith, c.rose, logs.read_faults);
       untouched = record { out = logs.out ∙ c.untouched.out; disks = c.untouched.disks };
     }

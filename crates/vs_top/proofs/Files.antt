@@ -7,7 +7,6 @@ use Rattle.vs_host.specs.declared.fault.HostFailed.{HostFailed}
 use Rattle.vs_host.specs.Faults.{Rose}
 use Rattle.vs_host.specs.Told.{Told}
 use Rattle.vs_host.specs.Calls.{PutsOut}
-use Rattle.vs_inputs.specs.declared.built.Built.TheVariants.{Stops}
 use Rattle.vs_inputs.specs.declared.fault.InputFault.{InputFault}
 use Rattle.vs_inputs.specs.declared.fault.InputFault.TheVariants as input
 use Rattle.vs_inputs.specs.Inputs.{AreInputs, IsInputCause, MayReadFiles}
@@ -38,7 +37,7 @@ same_names words x y one other =
     λ i. record { config = config i; events = events i; scripts = scripts i }
 
 -- a read that failed was counted
-read_rose : (k : ℕ) (names : Names) (old new : Told) → IsInputCause Stops names (input.Read k) old new → Rose old.read_faults new.read_faults
+read_rose : (k : ℕ) (names : Names) (old new : Told) → IsInputCause names (input.Read k) old new → Rose old.read_faults new.read_faults
 read_rose k names old new (inl config) = config.1
 read_rose k names old new (inr (inl events)) = events.cause.1
 read_rose k names old new (inr (inr (inl scripts))) = scripts.script.cause.1
@@ -57,12 +56,12 @@ outside_possible input.NoMemory is = tt
 
 module _ {D : Type 0} (tells : D → disk.Told) where
   -- files that give no inputs
-  pub input_fault : (fault : InputFault) (names : Names) (old mid : Told) (disks : List D) → OnlyReads old mid → IsInputCause Stops names fault old mid → IsFilesCause (from_inputs fault) (between tells old mid disks disks) names
+  pub input_fault : (fault : InputFault) (names : Names) (old mid : Told) (disks : List D) → OnlyReads old mid → IsInputCause names fault old mid → IsFilesCause (from_inputs fault) (between tells old mid disks disks) names
   input_fault (input.Text k fault) names old mid disks reads cause = record { cause = cause; untouched = record { out = reads.out; disks = refl } }
   input_fault (input.Read k) names old mid disks reads cause = record { cause = cause; rose = read_rose k names old mid cause; untouched = record { out = reads.out; disks = refl } }
   input_fault input.NoMemory names old mid disks reads cause = reads.out
 
-  module _ (names : Names) (config : Configuration) (scripts : Scripts) (events : List Event) (before after : List D) (old mid : Told) (inputs : AreInputs Stops old.file names config events scripts) (reads : OnlyReads old mid) where
+  module _ (names : Names) (config : Configuration) (scripts : Scripts) (events : List Event) (before after : List D) (old mid : Told) (inputs : AreInputs old.file names config events scripts) (reads : OnlyReads old mid) where
     abbrev given : (new : Told) → IsGiven (between tells old new before after) names
     given new = record { config = config; events = events; scripts = scripts; inputs = inputs }
 

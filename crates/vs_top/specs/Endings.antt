@@ -12,7 +12,6 @@ use Rattle.vs_event.specs.declared.reason.Reason.{Reason}
 use Rattle.vs_host.specs.Faults.{Rose}
 use Rattle.vs_host.specs.Told.{Told}
 use Rattle.vs_host.specs.Calls.{AppendsFront}
-use Rattle.vs_inputs.specs.declared.built.Built.TheVariants.{Stops}
 use Rattle.vs_inputs.specs.declared.fault.InputFault.TheVariants as input
 use Rattle.vs_inputs.specs.declared.fault.TextFault.{TextFault}
 use Rattle.vs_inputs.specs.Inputs.{AreInputs, AreGood, IsInputCause}
@@ -60,7 +59,7 @@ pub record IsGiven {D : Type 0} (o : Outside D) (names : Names) : Type 0 where
   pub config : Configuration
   pub events : List Event
   pub scripts : Scripts
-  pub inputs : AreInputs Stops o.old.file names config events scripts
+  pub inputs : AreInputs o.old.file names config events scripts
 
 -- they are played on the disks
 abbrev pub played : {D : Type 0} {o : Outside D} {names : Names} → IsGiven o names → Played D
@@ -90,7 +89,7 @@ pub record IsNoCommand {D : Type 0} (o : Outside D) (words : List (List ℕ)) : 
 
 -- ---- status 3: this is wrong with the text of the input, which is the first that isn't good
 pub record IsTextRefused {D : Type 0} (k : ℕ) (fault : TextFault) (o : Outside D) (names : Names) : Type 0 where
-  pub cause : IsInputCause Stops names (input.Text k fault) o.old o.new
+  pub cause : IsInputCause names (input.Text k fault) o.old o.new
   pub untouched : IsUntouched o
 
 -- ---- status 4: an event is impossible, after a run of those before it
@@ -101,7 +100,7 @@ pub record IsEventRefused {D : Type 0} (number : ℕ) (reason : Reason) (o : Out
 
 -- ---- status 5: reading the file of the input failed
 pub record IsReadFault {D : Type 0} (k : ℕ) (o : Outside D) (names : Names) : Type 0 where
-  pub cause : IsInputCause Stops names (input.Read k) o.old o.new
+  pub cause : IsInputCause names (input.Read k) o.old o.new
   pub rose : Rose o.old.read_faults o.new.read_faults
   pub untouched : IsUntouched o
 
@@ -190,9 +189,9 @@ pub record AreGoodDisks {D : Type 0} (told : D → disk.Told) (config : Configur
   pub fit : (states : ℕ → Durable) → AreStoodFor told config disks states → ((x : ℕ) → ¬ (IsSet config x) → states x ≡ nothing)
       → (b : ℕ) → 1 ≤ b → b ≤ config.bucket_count → IsCoherentAt (length config.sets) (held_as states) b
 
--- files of which each is in its form and built, and whose scripts may run together, over such disks; and no journal is full
+-- files of which each is in its form, and whose scripts may run together, over such disks; and no journal is full
 pub record IsGood {D : Type 0} (o : Outside D) (names : Names) : Type 0 where
-  pub files : AreGood Stops o.old.file names
+  pub files : AreGood o.old.file names
   pub disks : AreGoodDisks o.told files.config o.before
   pub none_full : (x : ℕ) → ¬ (IsFull x o names)
 

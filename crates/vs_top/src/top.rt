@@ -7,7 +7,6 @@ ghost use Rattle.vs_ending.specs.Ending.{KeepsHost};
 ghost use Rattle.vs_event.specs.declared.reason.Reason.{Reason};
 ghost use Rattle.vs_inputs.specs.declared.fault.TextFault.{TextFault};
 ghost use Rattle.vs_inputs.specs.FileNames.{names_of};
-ghost use Rattle.vs_inputs.specs.declared.built.Built.TheVariants.{Stops};
 ghost use Rattle.vs_inputs.specs.Inputs.{MayReadFiles, AreGood};
 ghost use Rattle.vs_inputs.specs.Words.{Names, texts, IsCommand, MayRead};
 ghost use Rattle.vs_machine.specs.Opening.{IsLawful};
@@ -27,7 +26,7 @@ use std::alloc::Global;
 use std::mem;
 use vs_disk::Disk;
 use vs_host::Host;
-use vs_inputs::{Built, Command, Inputs, command_of, read_inputs};
+use vs_inputs::{Command, Inputs, command_of, read_inputs};
 
 /// The report of the inputs on these disks, which come back.
 fn report_of<D: Disk + Drop>(
@@ -79,14 +78,14 @@ fn play_files<H: Host, D: Disk + Drop>(
         disks.old.items disks.new.items) (names_of command.now.names)) }
     ensures err { IfErr result (λ fault. IsFilesCause fault (between D.told (H.told host.old)
         (H.told host.new) disks.old.items disks.new.items) (names_of command.now.names)) }
-    ensures good { (files : AreGood Stops (H.told host.old).file (names_of command.now.names))
+    ensures good { (files : AreGood (H.told host.old).file (names_of command.now.names))
         → AreGoodDisks D.told files.config disks.old.items → IfErr result MayEndGood }
-    ensures possible { (files : AreGood Stops (H.told host.old).file (names_of command.now.names))
+    ensures possible { (files : AreGood (H.told host.old).file (names_of command.now.names))
         → AreGoodDisks D.told files.config disks.old.items
         → ArePossible (played_on D.told files.config files.scripts files.events disks.old.items
         disks.new.items) → IfErr result MayEndPossible }
 {
-    let inputs = read_inputs(command.alloc, host, Built::Stops, &command.names)?;
+    let inputs = read_inputs(command.alloc, host, &command.names)?;
     let text = report_of(command.alloc, inputs, disks)?;
     host.out(&text)?;
     Ok(())

@@ -7,6 +7,7 @@ use std::fs::{File, OpenFile};
 use std::process::ExitCode;
 use std::{env, io};
 use vs_disk::FileDisk;
+use vs_gate::OpenGate;
 use vs_host::RealHost;
 use vs_main::vshard_main;
 
@@ -57,5 +58,6 @@ fn main(rt: HostRuntime) -> io::Result<ExitCode> {
     let mut disks = disks(rt)?;
     let (alloc, output, log) = (rt.alloc(), rt.stdout(), rt.stderr());
     let mut host = RealHost::new(alloc, rt, output, log);
-    Ok(ExitCode::from(vshard_main(alloc, &words, &mut host, &mut disks)))
+    let status = vshard_main(&rt, alloc, &words, &mut host, &mut disks, &OpenGate);
+    Ok(ExitCode::from(status))
 }

@@ -1,66 +1,40 @@
-//! Reads that fail, and texts that ask for more than a program has.
+//! Reads that fail.
 
 use std::alloc::{AllocError, Global};
 use std::process::Abort;
 use std::test::Fail;
 use vs_base::NoMemory;
 use vs_host::{MemHost, NamedFile};
-use vs_inputs::{Built, InputFault, Inputs, command_of, fault_buffer, put_fault, read_inputs};
+use vs_inputs::{InputFault, Inputs, command_of, fault_buffer, put_fault, read_inputs};
 
 const TWO_SETS: &str =
     "bucket_count = 4\n[[set]]\nuuid = \"00000000-0000-4000-8000-000000000001\"\n[[set]]\nuuid = \"00000000-0000-4000-8000-000000000002\"\n";
 
 const EVENTS: &str = "act 1\n";
 
-const FAULTS: &str = "act 1\nfault 1 1 act 1\n";
-
 const CLIENT: &str = "client\nro 3 get a\n";
-
-const STOPS: &str = "operator\nstop 1\nrestart 1\n";
 
 const BALANCES: &str = "operator\nstop 1\nbalance\n";
 
-/// How much is built, the texts, the number of the read that fails, where one does, and the line.
-const TABLE: [(Built, &[&str], u64, &str); 9] = [
+/// The texts, the number of the read that fails, where one does, and the line.
+const TABLE: [(&[&str], u64, &str); 5] = [
+    (&[TWO_SETS, EVENTS, BALANCES], 0, ""),
     (
-        Built::Moves,
-        &[TWO_SETS, FAULTS, STOPS],
-        0,
-        "vshard: input 2: NotBuilt\n",
-    ),
-    (
-        Built::Moves,
-        &[TWO_SETS, EVENTS, STOPS],
-        0,
-        "vshard: input 3: NotBuilt\n",
-    ),
-    (
-        Built::Stops,
-        &[TWO_SETS, FAULTS, BALANCES],
-        0,
-        "vshard: input 3: NotBuilt\n",
-    ),
-    (Built::Stops, &[TWO_SETS, FAULTS, STOPS], 0, ""),
-    (Built::Everything, &[TWO_SETS, FAULTS, BALANCES], 0, ""),
-    (
-        Built::Moves,
         &[TWO_SETS, EVENTS, CLIENT, CLIENT],
         1,
         "vshard: read input 1\n",
     ),
     (
-        Built::Moves,
         &[TWO_SETS, EVENTS, CLIENT, CLIENT],
         2,
         "vshard: read input 2\n",
     ),
     (
-        Built::Moves,
         &[TWO_SETS, EVENTS, CLIENT, CLIENT],
         4,
         "vshard: read input 4\n",
     ),
-    (Built::Moves, &[TWO_SETS, EVENTS, CLIENT, CLIENT], 5, ""),
+    (&[TWO_SETS, EVENTS, CLIENT, CLIENT], 5, ""),
 ];
 
 fn file(alloc: Global, place: usize, text: &str) -> Result<NamedFile, AllocError> {
@@ -102,23 +76,17 @@ fn line_of(alloc: Global, read: Result<Inputs, InputFault>) -> Result<Vec<u8>, N
 }
 
 /// The line of the fault of these texts, and nothing where they are taken.
-fn line(
-    rt: &impl Abort,
-    alloc: Global,
-    built: Built,
-    texts: &[&str],
-    failing: u64,
-) -> Result<Vec<u8>, NoMemory> {
+fn line(rt: &impl Abort, alloc: Global, texts: &[&str], failing: u64) -> Result<Vec<u8>, NoMemory> {
     let mut host = host(alloc, texts, failing)?;
     let words = words(alloc, texts.len())?;
     let command = command_of(&words).expect(rt, "the words of play");
-    line_of(alloc, read_inputs(alloc, &mut host, built, &command.names))
+    line_of(alloc, read_inputs(alloc, &mut host, &command.names))
 }
 
 #[test]
 fn names_the_first_fault(rt: HostRuntime) -> Result<(), Fail> {
-    for (built, texts, failing, wanted) in TABLE {
-        let found = line(&rt, rt.alloc(), built, texts, failing)?;
+    for (texts, failing, wanted) in TABLE {
+        let found = line(&rt, rt.alloc(), texts, failing)?;
         assert_eq!(rt; found.as_slice(), wanted.as_bytes(), "at {wanted}");
     }
     Ok(())

@@ -22,7 +22,7 @@ pub returns-in_err-trace-clause-err : goal.returns-in_err-trace-clause-err
 returns-in_err-trace-clause-err g c =
     let p = err_from_is_err_and c.from_residual-in_err-trace.result c.from_residual-in_err-trace.ensures.1 in
     let first = c.in_ok-config.ensures.reads in
-    let cause = cause_before c.in_err-trace.field-0.0 events_place c.args.names.now.events.now (GivesEvents c.args.built) (g.H.Host.told c.args.host.now) (g.H.Host.told c.read_config_file.new.host) (g.H.Host.told c.read_events_file.new.host) first.host c.in_err-trace.ensures.err in
+    let cause = cause_before c.in_err-trace.field-0.0 events_place c.args.names.now.events.now (GivesEvents) (g.H.Host.told c.args.host.now) (g.H.Host.told c.read_config_file.new.host) (g.H.Host.told c.read_events_file.new.host) first.host c.in_err-trace.ensures.err in
     rw (p.1, p.2) (inr (inl (record { config = configuration c.in_ok-config.config; config_file = first.ok; cause = cause })))
 
 pub returns-in_err-trace-clause-good : goal.returns-in_err-trace-clause-good
@@ -30,7 +30,7 @@ returns-in_err-trace-clause-good g c = λ good.
     let p = err_from_is_err_and c.from_residual-in_err-trace.result c.from_residual-in_err-trace.ensures.1 in
     rw (p.1, p.2)
     (c.in_err-trace.ensures.good good.events
-    (good_after c.args.names.now.events.now (GivesEvents c.args.built) good.events (g.H.Host.told c.args.host.now) (g.H.Host.told c.read_config_file.new.host) c.in_ok-config.ensures.reads.host good.events_file))
+    (good_after c.args.names.now.events.now (GivesEvents) good.events (g.H.Host.told c.args.host.now) (g.H.Host.told c.read_config_file.new.host) c.in_ok-config.ensures.reads.host good.events_file))
 
 pub read_script_files-requires-clause-names : goal.read_script_files-requires-clause-names
 read_script_files-requires-clause-names g c = λ k d below. rw (c.in_ok-trace.ensures.host.files.may_read, c.in_ok-config.ensures.reads.host.files.may_read) (c.requires (suc (suc k)) d (omega arith))
@@ -43,8 +43,8 @@ returns-in_err-scripts-clause-good g c = λ good.
     let config = configuration c.in_ok-config.config in
     let given = map script c.in_ok-given.given.items in
     let same : (g.H.Host.told c.read_events_file.new.host).file ≡ files = c.in_ok-trace.ensures.host.files.file ∙ c.in_ok-config.ensures.reads.host.files.file in
-    let have : HaveScripts c.args.built config files names.scripts given = subst (λ (f : Files). HaveScripts c.args.built config f names.scripts given) same c.in_ok-given.ensures.ok in
-    rw (p.1, p.2) (good_gathers c.args.built files names config given c.in_err-scripts.field-0.0 c.in_ok-config.ensures.reads.ok have c.in_err-scripts.ensures.err good)
+    let have : HaveScripts config files names.scripts given = subst (λ (f : Files). HaveScripts config f names.scripts given) same c.in_ok-given.ensures.ok in
+    rw (p.1, p.2) (good_gathers files names config given c.in_err-scripts.field-0.0 c.in_ok-config.ensures.reads.ok have c.in_err-scripts.ensures.err good)
 
 pub returns-clause-lawful : goal.returns-clause-lawful
 returns-clause-lawful g c =
@@ -59,8 +59,8 @@ returns-clause-same g c = λ good.
     let given = map script c.in_ok-given.given.items in
     let first = c.in_ok-config.ensures.reads in
     let same : (g.H.Host.told c.read_events_file.new.host).file ≡ old.file = c.in_ok-trace.ensures.host.files.file ∙ first.host.files.file in
-    let have : HaveScripts c.args.built config old.file names.scripts given = subst (λ (f : Files). HaveScripts c.args.built config f names.scripts given) same c.in_ok-given.ensures.ok in (
+    let have : HaveScripts config old.file names.scripts given = subst (λ (f : Files). HaveScripts config f names.scripts given) same c.in_ok-given.ensures.ok in (
       first.same good.config good.config_file,
-      c.in_ok-trace.ensures.same good.events (good_after names.events (GivesEvents c.args.built) good.events old (g.H.Host.told c.read_config_file.new.host) first.host good.events_file),
-      same_gathered c.args.built old.file names config given (scripts c.in_ok-scripts.scripts) first.ok have c.in_ok-scripts.ensures.ok good,
+      c.in_ok-trace.ensures.same good.events (good_after names.events (GivesEvents) good.events old (g.H.Host.told c.read_config_file.new.host) first.host good.events_file),
+      same_gathered old.file names config given (scripts c.in_ok-scripts.scripts) first.ok have c.in_ok-scripts.ensures.ok good,
     )

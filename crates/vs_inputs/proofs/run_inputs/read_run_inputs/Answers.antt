@@ -24,8 +24,8 @@ returns-in_err-scripts-clause-good g c = λ good.
     let config = configuration c.in_ok-config.config in
     let first = c.in_ok-config.ensures.reads in
     let given = map script c.in_ok-given.given.items in
-    let have : HaveScripts c.args.built config files names.scripts given = subst (λ (f : Files). HaveScripts c.args.built config f names.scripts given) first.host.files.file c.in_ok-given.ensures.ok in
-    rw (p.1, p.2) (good_run_gathers c.args.built files names config given c.in_err-scripts.field-0.0 first.ok have c.in_err-scripts.ensures.err good)
+    let have : HaveScripts config files names.scripts given = subst (λ (f : Files). HaveScripts config f names.scripts given) first.host.files.file c.in_ok-given.ensures.ok in
+    rw (p.1, p.2) (good_run_gathers files names config given c.in_err-scripts.field-0.0 first.ok have c.in_err-scripts.ensures.err good)
 
 pub returns-clause-lawful : goal.returns-clause-lawful
 returns-clause-lawful g c =
@@ -39,7 +39,7 @@ returns-clause-same g c = λ good.
     let config = configuration c.in_ok-config.config in
     let first = c.in_ok-config.ensures.reads in
     let given = map script c.in_ok-given.given.items in
-    let have : HaveScripts c.args.built config files names.scripts given = subst (λ (f : Files). HaveScripts c.args.built config f names.scripts given) first.host.files.file c.in_ok-given.ensures.ok in (
+    let have : HaveScripts config files names.scripts given = subst (λ (f : Files). HaveScripts config f names.scripts given) first.host.files.file c.in_ok-given.ensures.ok in (
       first.same good.config good.config_file,
-      same_run_gathered c.args.built files names config given (scripts c.in_ok-scripts.scripts) first.ok have c.in_ok-scripts.ensures.ok good,
+      same_run_gathered files names config given (scripts c.in_ok-scripts.scripts) first.ok have c.in_ok-scripts.ensures.ok good,
     )

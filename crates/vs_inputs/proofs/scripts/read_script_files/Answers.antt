@@ -27,7 +27,7 @@ returns-in_err-script-clause-err g c =
     let within : c.loop-i.i < length names = rw length-map c.loop-i-test.true in
     let name = name_at c.args.names.now c.loop-i.i c.index-names-i.result c.as_str.result.now c.loop-i-test.true c.index-names-i.is c.as_str.ensures.value in
     rw (p.1, p.2)
-    (script_cause c.args.built (configuration c.args.config.now) names c.in_err-script.field-0.0 _ _ _ c.loop-i.i (map script c.loop-i.given.items) c.as_str.result.now _ c.args.first c.loop-i.invariant within name refl c.in_err-script.ensures.reads.err)
+    (script_cause (configuration c.args.config.now) names c.in_err-script.field-0.0 _ _ _ c.loop-i.i (map script c.loop-i.given.items) c.as_str.result.now _ c.args.first c.loop-i.invariant within name refl c.in_err-script.ensures.reads.err)
 
 pub returns-in_err-script-clause-good : goal.returns-in_err-script-clause-good
 returns-in_err-script-clause-good g c = λ scripts good.
@@ -35,8 +35,8 @@ returns-in_err-script-clause-good g c = λ scripts good.
     let names = texts c.args.names.now in
     let within : c.loop-i.i < length names = rw length-map c.loop-i-test.true in
     let name = name_at c.args.names.now c.loop-i.i c.index-names-i.result c.as_str.result.now c.loop-i-test.true c.index-names-i.is c.as_str.ensures.value in
-    let at = good_at c.args.built (configuration c.args.config.now) names scripts (g.H.Host.told c.args.host.now) c.loop-i.i c.as_str.result.now within name good in
-    rw (p.1, p.2) (c.in_err-script.ensures.reads.good at.0 (good_after c.as_str.result.now (GivesScript c.args.built (configuration c.args.config.now)) at.0 (g.H.Host.told c.args.host.now) (g.H.Host.told c.loop-i.host) c.loop-i.invariant.host at.1))
+    let at = good_at (configuration c.args.config.now) names scripts (g.H.Host.told c.args.host.now) c.loop-i.i c.as_str.result.now within name good in
+    rw (p.1, p.2) (c.in_err-script.ensures.reads.good at.0 (good_after c.as_str.result.now (GivesScript (configuration c.args.config.now)) at.0 (g.H.Host.told c.args.host.now) (g.H.Host.told c.loop-i.host) c.loop-i.invariant.host at.1))
 
 pub loop-i-preserved : goal.loop-i-preserved
 loop-i-preserved g c =
@@ -44,5 +44,5 @@ loop-i-preserved g c =
     let within : c.loop-i.i < length names = rw length-map c.loop-i-test.true in
     let name = name_at c.args.names.now c.loop-i.i c.index-names-i.result c.as_str.result.now c.loop-i-test.true c.index-names-i.is c.as_str.ensures.value in
     rw (c.push.ensures.items, c.reserve.ensures.items, map-append)
-    (goes_on c.args.built (configuration c.args.config.now) names _ _ _ c.loop-i.i (map script c.loop-i.given.items) c.as_str.result.now (script c.in_ok-script.script) c.loop-i.invariant within name c.in_ok-script.ensures.reads.host
+    (goes_on (configuration c.args.config.now) names _ _ _ c.loop-i.i (map script c.loop-i.given.items) c.as_str.result.now (script c.in_ok-script.script) c.loop-i.invariant within name c.in_ok-script.ensures.reads.host
     c.in_ok-script.ensures.reads.ok c.in_ok-script.ensures.lawful)

@@ -7,4 +7,4 @@ use Rattle.vs_inputs.proofs.scripts.read_script_files.Given as goal
 
 abbrev pub invariant-loop-i : goal.invariant-loop-i
 invariant-loop-i g l =
-    ReadSoFar l.built (configuration l.config) (texts l.names) (g.H.Host.told l.fn.host) (g.H.Host.told l.host) l.i (map script l.given.items)
+    ReadSoFar (configuration l.config) (texts l.names) (g.H.Host.told l.fn.host) (g.H.Host.told l.host) l.i (map script l.given.items)

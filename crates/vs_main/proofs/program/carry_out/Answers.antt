@@ -3,7 +3,7 @@ use Rattle.vs_command.specs.Command.{Command, command}
 use Rattle.vs_command.specs.declared.verbs.TheConstants.{BUILT}
 use Rattle.vs_inputs.specs.Words.{texts, files}
 use Rattle.vs_main.proofs.Playing.{is_command, play_ends, play_ends_well}
-use Rattle.vs_main.proofs.Words.{plan_may_read, audit_may_read, info_may_read}
+use Rattle.vs_main.proofs.Words.{run_may_read, reads_may_read, plan_may_read, audit_may_read, info_may_read}
 use Rattle.vs_main.proofs.program.carry_out.Goals as goal
 
 pub inform-requires-clause-config : goal.inform-requires-clause-config
@@ -48,5 +48,27 @@ returns-in-Audit-clause-ends g c = rw c.in-Audit.is (record { host = c.audit_rep
 pub returns-in-Audit-clause-good : goal.returns-in-Audit-clause-good
 returns-in-Audit-clause-good g c = rw c.in-Audit.is (record { legal = c.audit_report.ensures.legal; illegal = c.audit_report.ensures.illegal; refused = c.audit_report.ensures.refused })
 
+pub reads-requires-clause-files : goal.reads-requires-clause-files
+reads-requires-clause-files g c = λ κs outlives.
+    let is = rw c.in-Reads.is at c.requires.asks in
+    reads_may_read (g.H.Host.told c.args.host.now) BUILT (texts c.args.words.now) c.in-Reads.config.now c.in-Reads.rows.now (texts c.in-Reads.files.now) is c.requires.words
+
+pub returns-in-Reads-clause-ends : goal.returns-in-Reads-clause-ends
+returns-in-Reads-clause-ends g c = rw c.in-Reads.is (record { host = c.reads.ensures.ends; disks = refl })
+
+pub returns-in-Reads-clause-good : goal.returns-in-Reads-clause-good
+returns-in-Reads-clause-good g c = rw c.in-Reads.is c.reads.ensures.good
+
 pub returns-in-Info-clause-good : goal.returns-in-Info-clause-good
 returns-in-Info-clause-good g c = rw c.in-Info.is c.inform.ensures.good
+
+pub run_files-requires-clause-files : goal.run_files-requires-clause-files
+run_files-requires-clause-files g c = λ κs outlives.
+    let is = rw c.in-Run.is at c.requires.asks in
+    run_may_read (g.H.Host.told c.args.host.now) BUILT (texts c.args.words.now) c.in-Run.config.now (texts c.in-Run.files.now) is c.requires.words
+
+pub returns-in-Run-clause-ends : goal.returns-in-Run-clause-ends
+returns-in-Run-clause-ends g c = rw c.in-Run.is c.run_files.ensures.ends
+
+pub returns-in-Run-clause-good : goal.returns-in-Run-clause-good
+returns-in-Run-clause-good g c = rw c.in-Run.is c.run_files.ensures.good

@@ -11,7 +11,7 @@ use Rattle.vs_main.proofs.Statuses.{status_in}
 use Rattle.vs_main.proofs.program.vshard_main.Goals as goal
 
 pub carry_out-requires-clause-asks : goal.carry_out-requires-clause-asks
-carry_out-requires-clause-asks g c = sym c.in-Ok.ensures.read ∙ ap (option_map command) c.in-Some.is
+carry_out-requires-clause-asks g c = λ κs outlives. sym c.in-Ok.ensures.read ∙ ap (option_map command) c.in-Some.is
 
 pub returns-in-Some-clause-status : goal.returns-in-Some-clause-status
 returns-in-Some-clause-status g c = (status_in (Some (command c.in-Some.asked)) c.carry_out.result _ c.carry_out.ensures.ends).0

@@ -1,0 +1,9 @@
+pub mod LoggedText
+pub mod Steered
+pub mod Driven
+pub mod Lifted
+pub mod Ended
+pub mod FromFiles
+pub mod WithLine
+pub mod EndsWell
+pub mod AtRest

@@ -1,0 +1,4 @@
+use Rattle.vs_run.proofs.driving.rest.Given as goal
+
+abbrev pub ghosts-settle_in : goal.ghosts-settle_in
+ghosts-settle_in g a = record { name = a.blank.name; parts = a.blank.parts }
