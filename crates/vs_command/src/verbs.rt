@@ -21,7 +21,7 @@ pub struct Verbs {
 pub const BUILT: Verbs = Verbs {
     run: true,
     play: true,
-    generate: false,
+    generate: true,
     reads: true,
     plan: true,
     audit: true,

@@ -1,11 +1,9 @@
 -- How the program ends where there was no memory to read the words, or to log what commands there are.
-use Rattle.std.proofs.Common.{◌≡◌, ◌⊎◌, ℕ, false, List, [], ◌∷◌, Option, Some, None, lit<, refl, sym, subst, inl, inr}
+use Rattle.std.proofs.Common.{◌≡◌, ◌⊎◌, ℕ, List, [], ◌∷◌, Option, Some, None, lit<, refl, sym, subst, inl, inr}
 use Rattle.std.specs.Prelude.{Contains}
-use Rattle.vs_command.specs.Command.{Command, command_in, verb_of}
+use Rattle.vs_command.specs.Command.{Command}
 use Rattle.vs_command.specs.Command as command
 use Rattle.vs_command.specs.Usage.{usage}
-use Rattle.vs_command.specs.Verbs.{has}
-use Rattle.vs_command.specs.Word.{Text}
 use Rattle.vs_command.specs.declared.verbs.TheConstants.{BUILT}
 use Rattle.vs_auditing.specs.declared.fault.ReportFault.TheVariants as audit
 use Rattle.vs_disk.specs.Told as disk
@@ -18,26 +16,21 @@ use Rattle.vs_top.specs.Endings.{between}
 use Rattle.vs_top.specs.declared.fault.Fault.TheVariants as faults
 use Rattle.vs_main.specs.Endings.{AreNoCommand, Ends}
 use Rattle.vs_main.specs.Good.{EndsWell}
-use Rattle.vs_main.proofs.Words.{spelled}
-
--- words are no command that isn't built
-pub not_built : (words : List Text) (c : Command) → command_in BUILT words ≡ Some c → has BUILT (verb_of c) ≡ false → ⊥
-not_built words c is lacks = let s = spelled BUILT words c is in cc (s.built, lacks)
 
 module _ {D : Type 0} (tells : D → disk.Told) (disks : List D) (old new : Told) where
   pub none_told : (status : ℕ) → ((status ≡ 2) × OnlyLogs (usage BUILT) old new) ⊎ ((status ≡ 9) × OnlyLogs memory_line old new) → AreNoCommand status (between tells old new disks disks)
   none_told status (inl told) = record { untouched = record { out = told.1.out; disks = refl }; told = inl (told.0, told.1.logged) }
   none_told status (inr told) = record { untouched = record { out = told.1.out; disks = refl }; told = inr (told.0, told.1.logged) }
 
-  pub no_memory : (words : List Text) (found : Option Command) (status : ℕ) → command_in BUILT words ≡ found → status ≡ 9 → OnlyLogs memory_line old new → Ends found status (between tells old new disks disks)
-  no_memory words None status is nine told = none_told status (inr (nine, told))
-  no_memory words (Some (command.Play config events files)) status is nine told = inr (faults.NoMemory, record { status_is = nine; cause = told.out; logged = told.logged })
-  no_memory words (Some (command.Info config)) status is nine told = inr (faults.NoMemory, nine, record { cause = told.out; logged = told.logged })
-  no_memory words (Some (command.Run config files)) status is nine told = inr (faults.NoMemory, nine, (told.out, told.logged))
-  no_memory words (Some (command.Gen number)) status is nine told = absurd (not_built words (command.Gen number) is refl)
-  no_memory words (Some (command.Reads config rows files)) status is nine told = record { host = inr (reads.NoMemory, nine, record { cause = told.out; logged = told.logged }); disks = refl }
-  no_memory words (Some (command.Plan config counts)) status is nine told = record { host = inr (plan.NoMemory, nine, record { cause = told.out; logged = told.logged }); disks = refl }
-  no_memory words (Some (command.Audit report)) status is nine told = record { host = inr (audit.NoMemory, nine, record { cause = told.out; logged = told.logged }); disks = refl }
+  pub no_memory : (found : Option Command) (status : ℕ) → status ≡ 9 → OnlyLogs memory_line old new → Ends found status (between tells old new disks disks)
+  no_memory None status nine told = none_told status (inr (nine, told))
+  no_memory (Some (command.Play config events files)) status nine told = inr (faults.NoMemory, record { status_is = nine; cause = told.out; logged = told.logged })
+  no_memory (Some (command.Info config)) status nine told = inr (faults.NoMemory, nine, record { cause = told.out; logged = told.logged })
+  no_memory (Some (command.Run config files)) status nine told = inr (faults.NoMemory, nine, (told.out, told.logged))
+  no_memory (Some (command.Gen number)) status nine told = record { host = inr (inr (nine, record { out = told.out; line = told.logged })); disks = refl }
+  no_memory (Some (command.Reads config rows files)) status nine told = record { host = inr (reads.NoMemory, nine, record { cause = told.out; logged = told.logged }); disks = refl }
+  no_memory (Some (command.Plan config counts)) status nine told = record { host = inr (plan.NoMemory, nine, record { cause = told.out; logged = told.logged }); disks = refl }
+  no_memory (Some (command.Audit report)) status nine told = record { host = inr (audit.NoMemory, nine, record { cause = told.out; logged = told.logged }); disks = refl }
 
   -- then good inputs may end so
   pub no_memory_well : (found : Option Command) (status : ℕ) → status ≡ 9 → EndsWell found status (between tells old new disks disks)
@@ -48,7 +41,7 @@ module _ {D : Type 0} (tells : D → disk.Told) (disks : List D) (old new : Told
   )
   no_memory_well (Some (command.Info config)) status nine = λ good none. subst (Contains (0 ∷ 9 ∷ [])) (sym nine) (1, lit< tt, refl)
   no_memory_well (Some (command.Run config files)) status nine = λ good none. subst (Contains (0 ∷ 9 ∷ [])) (sym nine) (1, lit< tt, refl)
-  no_memory_well (Some (command.Gen number)) status nine = tt
+  no_memory_well (Some (command.Gen number)) status nine = λ none. subst (Contains (0 ∷ 9 ∷ [])) (sym nine) (1, lit< tt, refl)
   no_memory_well (Some (command.Reads config rows files)) status nine = λ good none. subst (Contains (0 ∷ 9 ∷ [])) (sym nine) (1, lit< tt, refl)
   no_memory_well (Some (command.Plan config counts)) status nine = λ good none. subst (Contains (0 ∷ 9 ∷ [])) (sym nine) (1, lit< tt, refl)
   no_memory_well (Some (command.Audit report)) status nine = record {

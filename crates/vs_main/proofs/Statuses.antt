@@ -1,5 +1,5 @@
 -- With which statuses the program ends.
-use Rattle.std.proofs.Common.{◌≡◌, ◌⊎◌, ℕ, Option, Some, None, lit<, refl, sym, subst, inl, inr}
+use Rattle.std.proofs.Common.{◌≡◌, ℕ, Option, Some, None, lit<, refl, sym, subst, inl, inr}
 use Rattle.std.specs.Prelude.{Contains}
 use Rattle.vs_command.specs.Command.{Command}
 use Rattle.vs_command.specs.Command as command
@@ -8,6 +8,7 @@ use Rattle.vs_auditing.specs.Endings as audit
 use Rattle.vs_auditing.specs.Lines as audit_lines
 use Rattle.vs_auditing.specs.declared.fault.ReportFault.{ReportFault}
 use Rattle.vs_auditing.specs.declared.fault.ReportFault.TheVariants as audit_faults
+use Rattle.vs_generating.specs.Endings as generating
 use Rattle.vs_host.specs.Told.{Told}
 use Rattle.vs_informing.specs.Endings as info
 use Rattle.vs_inputs.specs.Words.{Names}
@@ -106,6 +107,11 @@ run_status status names o (inl ran) = elim ran.holds [
 ]
 run_status status names o (inr (fault, is, by)) = subst (λ (s : ℕ). Contains statuses s × (s ≡ 2 → ⊥)) (sym is) (run_fault_status fault names o by)
 
+gen_status : (status number : ℕ) (old new : Told) → generating.Ends status number old new → Contains statuses status × (status ≡ 2 → ⊥)
+gen_status status number old new (inl told) = (subst (Contains statuses) (sym told.0) (0, lit< tt, refl), λ two. cc (two, told.0))
+gen_status status number old new (inr (inl part)) = (subst (Contains statuses) (sym part.0) (5, lit< tt, refl), λ two. cc (two, part.0))
+gen_status status number old new (inr (inr untold)) = (subst (Contains statuses) (sym untold.0) (8, lit< tt, refl), λ two. cc (two, untold.0))
+
 audit_fault_status : (fault : ReportFault) → Contains statuses (audit_lines.status_of fault) × (audit_lines.status_of fault ≡ 2 → ⊥)
 audit_fault_status audit_faults.TooLong = ((2, lit< tt, refl), λ two. cc (two))
 audit_fault_status (audit_faults.BadReport line) = ((2, lit< tt, refl), λ two. cc (two))
@@ -130,7 +136,8 @@ status_in (Some (command.Info config)) status o ends =
     let of = info_status status config o ends in (of.0, λ two. absurd (of.1 two))
 status_in (Some (command.Run config files)) status o ends =
     let of = run_status status _ o ends in (of.0, λ two. absurd (of.1 two))
-status_in (Some (command.Gen number)) status o ends = absurd ends
+status_in (Some (command.Gen number)) status o ends =
+    let of = gen_status status number _ _ ends.host in (of.0, λ two. absurd (of.1 two))
 status_in (Some (command.Reads config rows files)) status o ends =
     let of = reads_status status _ _ _ ends.host in (of.0, λ two. absurd (of.1 two))
 status_in (Some (command.Plan config counts)) status o ends =

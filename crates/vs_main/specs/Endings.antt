@@ -8,6 +8,7 @@ use Rattle.vs_command.specs.declared.verbs.TheConstants.{BUILT}
 use Rattle.vs_ending.specs.Ending.{IsLogged}
 use Rattle.vs_ending.specs.Lines.{memory_line}
 use Rattle.vs_auditing.specs.Endings as audit
+use Rattle.vs_generating.specs.Endings as generating
 use Rattle.vs_host.specs.Told.{Told}
 use Rattle.vs_informing.specs.Endings as info
 use Rattle.vs_inputs.specs.Words.{Names, files}
@@ -51,13 +52,13 @@ pub record WithoutDisks {D : Type 0} (OfHost : Told → Told → Type 0) (o : Ou
 abbrev pub reads_files : Text → Text → List Text → ReadsNames
 reads_files config rows scripts = record { config = config; rows = rows; files = scripts }
 
--- ---- each command; those that aren't built are none
+-- ---- each command
 
 abbrev pub EndsBy : {D : Type 0} → Command → ℕ → Outside D → Type 0
 EndsBy (command.Play config events scripts) status o = PlayEnds status (files config events scripts) o
 EndsBy (command.Info config) status o = info.Ends status o config
 EndsBy (command.Run config scripts) status o = run.Ends status (run_names config scripts) o
-EndsBy (command.Gen number) status o = ⊥
+EndsBy (command.Gen number) status o = WithoutDisks (generating.Ends status number) o
 EndsBy (command.Reads config rows scripts) status o = WithoutDisks (λ old new. reads.Ends status old new (reads_files config rows scripts)) o
 EndsBy (command.Plan config counts) status o = WithoutDisks (λ old new. plan.Ends status old new (plan_files config counts)) o
 EndsBy (command.Audit report) status o = WithoutDisks (λ old new. audit.Ends status old new report) o

@@ -1,5 +1,6 @@
 -- How a command ends that has good inputs, where nothing of the outside fails.
 use Rattle.std.specs.Prelude.{ℕ, List, Contains, [], ◌∷◌, Option, Some, None}
+use Rattle.vs_base.specs.Faults.{Rose}
 use Rattle.vs_command.specs.Command.{Command}
 use Rattle.vs_command.specs.Command as command
 use Rattle.vs_command.specs.Word.{Text}
@@ -43,6 +44,10 @@ pub record AuditEndsWell {D : Type 0} (status : ℕ) (report : Text) (o : Outsid
   pub illegal : audit.IsTextFile o.old.file report IsIllegalText → ending.NoneRose o.old o.new → Contains (9 ∷ 11 ∷ []) status
   pub refused : audit.IsTextFile o.old.file report IsNoReport → ending.NoneRose o.old o.new → Contains (3 ∷ 9 ∷ []) status
 
+-- a number's work is run, where no write fails
+abbrev pub GenEndsWell : {D : Type 0} → ℕ → Outside D → Type 0
+GenEndsWell status o = ¬ (Rose o.old.write_faults o.new.write_faults) → Contains (0 ∷ 9 ∷ []) status
+
 abbrev pub EndsWellBy : {D : Type 0} → Command → ℕ → Outside D → Type 0
 EndsWellBy (command.Run config scripts) status o = run.EndsWell status (run_names config scripts) o
 EndsWellBy (command.Play config events scripts) status o =
@@ -51,7 +56,7 @@ EndsWellBy (command.Info config) status o = InfoEndsWell status config o
 EndsWellBy (command.Reads config rows scripts) status o = ReadsEndWell status config rows scripts o
 EndsWellBy (command.Plan config counts) status o = PlanEndsWell status config counts o
 EndsWellBy (command.Audit report) status o = AuditEndsWell status report o
-EndsWellBy c status o = Unit {0}
+EndsWellBy (command.Gen number) status o = GenEndsWell status o
 
 abbrev pub EndsWell : {D : Type 0} → Option Command → ℕ → Outside D → Type 0
 EndsWell None status o = Unit {0}

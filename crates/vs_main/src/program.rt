@@ -1,8 +1,7 @@
 //! The command that words are is carried out.
 
-ghost use Rattle.std.specs.Prelude.{◌≡◌, Contains, None, Some, IsTrue, length};
-ghost use Rattle.vs_command.specs.Command.{command, command_in, verb_of};
-ghost use Rattle.vs_command.specs.Verbs.{has};
+ghost use Rattle.std.specs.Prelude.{◌≡◌, Contains, None, Some, length};
+ghost use Rattle.vs_command.specs.Command.{command, command_in};
 ghost use Rattle.vs_ending.specs.Ending.{KeepsHost};
 ghost use Rattle.vs_inputs.specs.Words.{MayRead, texts};
 ghost use Rattle.vs_main.specs.Endings.{Ends, EndsBy, statuses};
@@ -19,6 +18,7 @@ use vs_command::{BUILT, Command, command_of};
 use vs_disk::Disk;
 use vs_ending::log_memory;
 use vs_gate::Gate;
+use vs_generating::run_generated;
 use vs_host::Host;
 use vs_informing::inform;
 use vs_plan::plan;
@@ -37,7 +37,6 @@ fn carry_out<H: Host, D: Disk + Drop + Send, G: Gate + Sync, R: Threads + Wait +
     gate: &G,
 ) -> u8
     requires asks { command_in BUILT (texts words.now) ≡ Some (command asked) }
-    requires built { IsTrue (has BUILT (verb_of (command asked))) }
     requires words { MayRead (H.told host.old) (texts words.now) }
     requires disks { length disks.old.items ≡ 32 }
     ensures ends { EndsBy (command asked.entry) result (between D.told (H.told host.old)
@@ -58,7 +57,7 @@ fn carry_out<H: Host, D: Disk + Drop + Send, G: Gate + Sync, R: Threads + Wait +
         Command::Plan { config, counts } => plan(alloc, config, counts, host),
         Command::Audit { report } => audit_report(alloc, report, host),
         Command::Info { config } => inform(alloc, config, host, disks),
-        Command::Gen(_) => unreachable!(),
+        Command::Gen(number) => run_generated(rt, alloc, number, host, gate),
     }
 }
 

@@ -1,6 +1,6 @@
 pub mod LoggedText
 pub mod Steered
-pub mod Driven
+pub mod DrivenWorld
 pub mod Lifted
 pub mod Ended
 pub mod FromFiles

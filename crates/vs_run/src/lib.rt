@@ -5,4 +5,6 @@ mod driving;
 mod run;
 mod telling;
 
+pub use driving::{driven, rest};
 pub use run::run_files;
+pub use telling::log_events;

@@ -1,7 +1,6 @@
-use Rattle.std.proofs.Common.{refl, ◌≡◌, [], ◌∷◌, Some, sym, ap, ◌∙◌, subst, arith}
-use Rattle.vs_command.specs.Command.{Command, command}
+use Rattle.std.proofs.Common.{refl}
 use Rattle.vs_command.specs.declared.verbs.TheConstants.{BUILT}
-use Rattle.vs_inputs.specs.Words.{texts, files}
+use Rattle.vs_inputs.specs.Words.{texts}
 use Rattle.vs_main.proofs.Playing.{is_command, play_ends, play_ends_well}
 use Rattle.vs_main.proofs.Words.{run_may_read, reads_may_read, plan_may_read, audit_may_read, info_may_read}
 use Rattle.vs_main.proofs.program.carry_out.Goals as goal
@@ -72,3 +71,9 @@ returns-in-Run-clause-ends g c = rw c.in-Run.is c.run_files.ensures.ends
 
 pub returns-in-Run-clause-good : goal.returns-in-Run-clause-good
 returns-in-Run-clause-good g c = rw c.in-Run.is c.run_files.ensures.good
+
+pub returns-in-Gen-clause-ends : goal.returns-in-Gen-clause-ends
+returns-in-Gen-clause-ends g c = rw c.in-Gen.is (record { host = c.run_generated.ensures.ends; disks = refl })
+
+pub returns-in-Gen-clause-good : goal.returns-in-Gen-clause-good
+returns-in-Gen-clause-good g c = rw c.in-Gen.is c.run_generated.ensures.good

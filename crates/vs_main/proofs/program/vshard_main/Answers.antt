@@ -1,4 +1,4 @@
-use Rattle.std.proofs.Common.{◌≡◌, Option, Some, None, sym, ap, ◌∙◌, subst, refl}
+use Rattle.std.proofs.Common.{◌≡◌, Option, Some, None, sym, ap, ◌∙◌, subst}
 use Rattle.std.specs.Prelude.{option_map}
 use Rattle.vs_command.specs.Command.{Command, command, command_in}
 use Rattle.vs_command.specs.declared.verbs.TheConstants.{BUILT}
@@ -45,10 +45,10 @@ returns-in-None-clause-good g c =
     subst (λ (found : Option Command). EndsWell found c.log_usage.result (between g.D.Disk.told (g.H.Host.told c.args.host.now) (g.H.Host.told c.log_usage.new.host) c.args.disks.now.items c.args.disks.now.items)) (sym read) tt
 
 pub returns-in-Err-clause-status : goal.returns-in-Err-clause-status
-returns-in-Err-clause-status g c = (status_in (command_in BUILT (texts c.args.words.now)) c.log_memory.result _ (no_memory g.D.Disk.told c.args.disks.now.items _ _ (texts c.args.words.now) _ c.log_memory.result refl c.log_memory.ensures.status c.log_memory.ensures.line)).0
+returns-in-Err-clause-status g c = (status_in (command_in BUILT (texts c.args.words.now)) c.log_memory.result _ (no_memory g.D.Disk.told c.args.disks.now.items _ _ (command_in BUILT (texts c.args.words.now)) c.log_memory.result c.log_memory.ensures.status c.log_memory.ensures.line)).0
 
 pub returns-in-Err-clause-ends : goal.returns-in-Err-clause-ends
-returns-in-Err-clause-ends g c = no_memory g.D.Disk.told c.args.disks.now.items _ _ (texts c.args.words.now) _ c.log_memory.result refl c.log_memory.ensures.status c.log_memory.ensures.line
+returns-in-Err-clause-ends g c = no_memory g.D.Disk.told c.args.disks.now.items _ _ (command_in BUILT (texts c.args.words.now)) c.log_memory.result c.log_memory.ensures.status c.log_memory.ensures.line
 
 pub returns-in-Err-clause-good : goal.returns-in-Err-clause-good
 returns-in-Err-clause-good g c = no_memory_well g.D.Disk.told c.args.disks.now.items _ _ _ c.log_memory.result c.log_memory.ensures.status

@@ -1,5 +1,5 @@
 use Rattle.std.proofs.Common.{sym, ◌∙◌}
-use Rattle.vs_run.proofs.Driven.{ends_run, driven_from}
+use Rattle.vs_run.proofs.DrivenWorld.{ends_run, driven_from}
 use Rattle.vs_run.proofs.driving.driven.Goals as goal
 
 pub with_length-fault-requires : goal.with_length-fault-requires

@@ -1,0 +1,9 @@
+pub mod Counting
+pub mod Unfailed
+pub mod DisksInMemory
+pub mod Lawful
+pub mod Coherent
+pub mod Opening
+pub mod Ran
+pub mod SummaryLines
+pub mod Telling
