@@ -1,28 +1,45 @@
 -- How a run on disks ends, by how it ends on worlds.
-use Rattle.std.proofs.Common.{◌≡◌, ℕ, true, List, Result, Ok, Err, refl, sym, subst, ◌∙◌, inl, inr}
+use Rattle.std.proofs.Common.{◌≡◌, ℕ, ◌<◌, ◌^◌, true, List, length, Result, Ok, Err, refl, sym, subst, ◌∙◌, inl, inr}
 use Rattle.std.specs.Prelude.{IfOk, IfErr}
+use Rattle.vs_auditing.specs.Texts.{IsLegalText}
 use Rattle.vs_config.specs.Configuration.{Configuration}
 use Rattle.vs_disk.specs.Told as disk
+use Rattle.vs_event.specs.declared.event.Event.{Event}
 use Rattle.vs_host.specs.Told.{Told}
+use Rattle.vs_inputs.specs.Files.{Files}
+use Rattle.vs_legal.specs.Laws.{AreBasesNamed}
+use Rattle.vs_machine.specs.Journals.{held_as}
+use Rattle.vs_named.specs.Named.{AreRead}
+use Rattle.vs_named.specs.Laws.{ReportsAreLegal}
 use Rattle.vs_script.specs.Scripts.{Scripts}
 use Rattle.vs_core.specs.Safety.{SafeRuns}
 use Rattle.vs_drive.specs.declared.driver.DriveFault.{DriveFault}
 use Rattle.vs_drive.specs.declared.driver.DriveFault.TheVariants as drive
 use Rattle.vs_machine.specs.Laws.{BegunInputs}
-use Rattle.vs_machine.specs.State.{has_set}
+use Rattle.vs_machine.specs.Report.{report}
+use Rattle.vs_machine.specs.State.{State, has_set}
 use Rattle.vs_world.specs.Opened.{IsOpened}
 use Rattle.vs_world.specs.Played.{began, state_of}
 use Rattle.vs_world.specs.World.{World}
 use Rattle.vs_top.specs.Endings.{between, MayEndGood}
-use Rattle.vs_top.specs.Plays.{journal_limit}
+use Rattle.vs_top.specs.Plays.{journal_limit, played_on}
+use Rattle.vs_top.proofs.Legal.{ran_from}
 use Rattle.vs_top.specs.declared.fault.Fault.{Fault}
 use Rattle.vs_top.specs.declared.fault.Fault.TheVariants as faults
 use Rattle.vs_run.specs.Endings.{IsRunEnd, IsRunCause}
+use Rattle.vs_run.specs.Runs.{IsSettledRun}
 use Rattle.vs_run.specs.Worlds.{IsRun, IsRunOn, IsStopped, IsEnd, IsEndCause, IsUntold, HasFailedAtRest, from_drivers}
 use Rattle.vs_run.proofs.Steered.{set_before}
 use Rattle.vs_run.proofs.Lifted.{settled_run, down_after, full_of_drivers, full_of_service}
 
 module _ {D : Type 0} (told : D → disk.Told) (config : Configuration) (scripts : Scripts) (before : List D) (first : World D) (o : IsOpened told config scripts journal_limit before first) (inputs : BegunInputs) (law : SafeRuns) (old new : Told) (back : List D) where
+  -- the report is legal
+  told_legal : ReportsAreLegal → (files : Files) (names : List (List ℕ)) → AreRead files names config scripts → (events : List Event) (s : State) → IsSettledRun (played_on told config scripts events before back) s → AreBasesNamed s → length (report s) < 2 ^ 64
+      → IsLegalText (report s)
+  told_legal legal files names read events s settled named short =
+      let r = settled.steered.run in
+      legal files names config scripts (held_as r.began.states) events s read r.begun.coherent (ran_from (played_on told config scripts events before back) r.began r.begun events s r.ran) named short
+
   module _ (middle last : World D) (r : IsRun told first middle last back) where
     same : began last.played ≡ began first.played
     same = r.began ∙ r.driven.began
@@ -30,16 +47,19 @@ module _ {D : Type 0} (told : D → disk.Told) (config : Configuration) (scripts
     set_then : (failed : HasFailedAtRest told middle last old new) → has_set (state_of middle.played) failed.set ≡ true
     set_then failed = set_before inputs told middle last failed.set r.before r.kept r.began failed.failed.set
 
-    end_of : (status : ℕ) → IsEnd told status middle last old new → IsRunEnd status (between told old new before back) config scripts
-    end_of status (inl ended) = inl (
-      ended.0,
-      record {
-        run = record { events = last.played.events; last = state_of last.played; holds = settled_run told config scripts before first o inputs law last back r.kept r.disks same r.steered ended.1.finished ended.1.settled };
-        out = ended.2.out;
-        log = ended.2.log;
-      },
-    )
-    end_of status (inr failed) = inr (
+    end_of : ReportsAreLegal → (files : Files) (names : List (List ℕ)) → AreRead files names config scripts → (status : ℕ) → IsEnd told status middle last old new → IsRunEnd status (between told old new before back) config scripts
+    end_of legal files names read status (inl ended) =
+        let settled = settled_run told config scripts before first o inputs law last back r.kept r.disks same r.steered ended.1.finished ended.1.settled in
+        inl (
+          ended.0,
+          record {
+            run = record { events = last.played.events; last = state_of last.played; holds = settled };
+            out = ended.2.out;
+            log = ended.2.log;
+            legal = told_legal legal files names read last.played.events (state_of last.played) settled ended.2.named ended.2.short;
+          },
+        )
+    end_of legal files names read status (inr failed) = inr (
       failed.0,
       (
         failed.1.set,
@@ -67,8 +87,8 @@ module _ {D : Type 0} (told : D → disk.Told) (config : Configuration) (scripts
     }
     cause_of fault c = absurd c
 
-  pub ends_on : (status : ℕ) → IsRunOn told first (Ok status) back old new → IsRunEnd status (between told old new before back) config scripts
-  ends_on status on = end_of on.0 on.1 on.2 status on.3
+  pub ends_on : (status : ℕ) → IsRunOn told first (Ok status) back old new → ReportsAreLegal → (files : Files) (names : List (List ℕ)) → AreRead files names config scripts → IsRunEnd status (between told old new before back) config scripts
+  ends_on status on legal files names read = end_of on.0 on.1 on.2 legal files names read status on.3
 
   stopped : (last : World D) (fault : DriveFault) → IsStopped told first last back fault → IsUntold old new → IsRunCause (from_drivers fault) (between told old new before back) config scripts new.log
   stopped last (drive.Full x) s untold = record {
@@ -83,9 +103,9 @@ module _ {D : Type 0} (told : D → disk.Told) (config : Configuration) (scripts
 
 -- whatever the answer
 pub end_is : {D : Type 0} (told : D → disk.Told) (config : Configuration) (scripts : Scripts) (before : List D) (first : World D) → IsOpened told config scripts journal_limit before first → BegunInputs → SafeRuns → (old new : Told) (back : List D) (r : Result ℕ Fault)
-    → IsRunOn told first r back old new → IfOk r (λ status. IsRunEnd status (between told old new before back) config scripts)
-end_is told config scripts before first o inputs law old new back (Ok status) on = ends_on told config scripts before first o inputs law old new back status on
-end_is told config scripts before first o inputs law old new back (Err fault) on = tt
+    → IsRunOn told first r back old new → ReportsAreLegal → (files : Files) (names : List (List ℕ)) → AreRead files names config scripts → IfOk r (λ status. IsRunEnd status (between told old new before back) config scripts)
+end_is told config scripts before first o inputs law old new back (Ok status) on = λ legal files names read. ends_on told config scripts before first o inputs law old new back status on legal files names read
+end_is told config scripts before first o inputs law old new back (Err fault) on = λ legal files names read. tt
 
 pub cause_is : {D : Type 0} (told : D → disk.Told) (config : Configuration) (scripts : Scripts) (before : List D) (first : World D) → IsOpened told config scripts journal_limit before first → BegunInputs → SafeRuns → (old new : Told) (back : List D) (r : Result ℕ Fault)
     → IsRunOn told first r back old new → IfErr r (λ fault. IsRunCause fault (between told old new before back) config scripts new.log)

@@ -9,8 +9,10 @@ use Rattle.vs_host.specs.Calls.{AppendsFront}
 use Rattle.vs_host.specs.Told.{Told}
 use Rattle.vs_inputs.specs.declared.fault.InputFault.{InputFault}
 use Rattle.vs_inputs.specs.declared.fault.InputFault.TheVariants as input
+use Rattle.vs_inputs.specs.Files.{Files}
 use Rattle.vs_inputs.specs.Reading.{OnlyReads, IsOutside}
 use Rattle.vs_inputs.specs.RunInputs.{RunNames, AreRunInputs, IsRunInputCause}
+use Rattle.vs_named.specs.Named.{AreRead}
 use Rattle.vs_script.specs.Scripts.{Scripts}
 use Rattle.vs_store.specs.declared.fault.StoreFault.TheVariants as store
 use Rattle.vs_world.specs.NotOpened.{IsNotOpened}
@@ -66,7 +68,7 @@ module _ {D : Type 0} (tells : D → disk.Told) where
     risen r = subst (λ (n : ℕ). Rose n new.write_faults) reads.write_faults r
 
     pub end_since : (status : ℕ) → IsRunEnd status (between tells mid new before after) config scripts → IsRunEnd status (between tells old new before after) config scripts
-    end_since status (inl (zero, ran)) = inl (zero, record { run = ran.run; out = adds _ ran.out; log = logs _ _ ran.log })
+    end_since status (inl (zero, ran)) = inl (zero, record { run = ran.run; out = adds _ ran.out; log = logs _ _ ran.log; legal = ran.legal })
     end_since status (inr (seven, (x, failed))) = inr (seven, (x, record { number = failed.number; run = failed.run; out = failed.out ∙ reads.out; between = failed.between; events = by _ _ failed.events; line = line _ _ failed.line }))
       where
         by : (text : List ℕ) (end : Option (List ℕ)) → (Appends mid.log end text) ⊎ (AppendsFront mid.log end text × Rose mid.write_faults new.write_faults) → (Appends old.log end text) ⊎ (AppendsFront old.log end text × Rose old.write_faults new.write_faults)
@@ -108,8 +110,9 @@ module _ {D : Type 0} (tells : D → disk.Told) where
       cause_given (faults.Read k) c = absurd c
 
       -- whatever the answer
-      pub ends_any : (r : Result ℕ Fault) → IfOk r (λ status. IsRunEnd status (between tells mid new before after) config scripts) → IfOk r (λ status. HasGiven (between tells old new before after) names (IsRunEnd status (between tells old new before after)))
-      ends_any (Ok status) e = ends_given status e
+      pub ends_any : (r : Result ℕ Fault) → ((files : Files) (names : List (List ℕ)) → AreRead files names config scripts → IfOk r (λ status. IsRunEnd status (between tells mid new before after) config scripts))
+          → IfOk r (λ status. HasGiven (between tells old new before after) names (IsRunEnd status (between tells old new before after)))
+      ends_any (Ok status) e = ends_given status (e old.file names.scripts (record { each = inputs.each; script_files = inputs.script_files; gathered = inputs.gathered }))
       ends_any (Err fault) e = tt
 
       pub cause_any : (r : Result ℕ Fault) → IfErr r (λ fault. IsRunCause fault (between tells mid new before after) config scripts new.log) → IfErr r (λ fault. IsFilesCause fault (between tells old new before after) names)

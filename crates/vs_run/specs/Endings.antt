@@ -1,6 +1,7 @@
 -- How the command `run` ends, by its status.
 use Rattle.std.specs.Prelude.{◌≡◌, ◌⊎◌, ℕ, List, [], ◌∷◌, Option, Contains}
 use Rattle.std.specs.Io.KnownBytes.{Appends}
+use Rattle.vs_auditing.specs.Texts.{IsLegalText}
 use Rattle.vs_base.specs.Faults.{Rose}
 use Rattle.vs_base.specs.Numbers.{IsSetNo}
 use Rattle.vs_config.specs.Configuration.{Configuration}
@@ -47,11 +48,12 @@ pub record HasGiven {D : Type 0} (o : Outside D) (names : RunNames) (Holds : Con
 abbrev pub EndsInLine : {D : Type 0} → List ℕ → Option (List ℕ) → Outside D → Type 0
 EndsInLine line before o = Appends before o.new.log line ⊎ (AppendsFront before o.new.log line × Rose o.old.write_faults o.new.write_faults)
 
--- ---- status 0: the report was put out, and the text of the events was logged
+-- ---- status 0: the report was put out, which an audit finds legal, and the text of the events was logged
 pub record IsRan {D : Type 0} (o : Outside D) (config : Configuration) (scripts : Scripts) : Type 0 where
   pub run : HasRun o config scripts IsSettledRun
   pub out : Appends o.old.out o.new.out (report run.last)
   pub log : Appends o.old.log o.new.log (events_text run.events)
+  pub legal : IsLegalText (report run.last)
 
 -- ---- status 7, where the cluster came to be settled: the text of the events was logged, or a front of it where a write failed, and then
 -- the line

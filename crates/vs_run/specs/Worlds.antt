@@ -1,5 +1,5 @@
 -- What is known of a world while it is run.
-use Rattle.std.specs.Prelude.{◌≡◌, ◌⊎◌, ℕ, Bool, true, List, Option, Result, Ok, Err}
+use Rattle.std.specs.Prelude.{◌≡◌, ◌⊎◌, ℕ, ◌^◌, ◌<◌, Bool, true, List, length, Option, Result, Ok, Err}
 use Rattle.std.specs.Io.KnownBytes.{Appends}
 use Rattle.vs_base.specs.Faults.{Rose}
 use Rattle.vs_base.specs.Numbers.{IsSetNo}
@@ -7,6 +7,7 @@ use Rattle.vs_disk.specs.Told as disk
 use Rattle.vs_event.specs.Event.{events_text}
 use Rattle.vs_host.specs.Calls.{AppendsFront}
 use Rattle.vs_host.specs.Told.{Told}
+use Rattle.vs_legal.specs.Laws.{AreBasesNamed}
 use Rattle.vs_machine.specs.Driven.{IsDriven}
 use Rattle.vs_machine.specs.Kinds.Stops.{is_finished}
 use Rattle.vs_machine.specs.Report.{report}
@@ -45,8 +46,10 @@ pub record IsAtRest {D : Type 0} (w : World D) : Type 0 where
 
 -- ---- what is told of it
 
--- the report was put out, and the text of the events was logged
+-- the report was put out, which has its length in 64 bits and keys and values for rows, and the text of the events was logged
 pub record IsTold {D : Type 0} (w : World D) (old new : Told) : Type 0 where
+  pub short : length (report (state_of w.played)) < 2 ^ 64
+  pub named : AreBasesNamed (state_of w.played)
   pub out : Appends old.out new.out (report (state_of w.played))
   pub log : Appends old.log new.log (events_text w.played.events)
 

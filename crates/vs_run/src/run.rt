@@ -1,12 +1,14 @@
 //! The command `run`, from files to a report and a list of events.
 
-ghost use Rattle.std.specs.Prelude.{◌≡◌, [], Contains, IfErr, IfOk, IsTrue, ◌↔◌, length, true};
+ghost use Rattle.std.specs.Prelude.{◌≡◌, ℕ, List, [], Contains, IfErr, IfOk, IsTrue, ◌↔◌, length, true};
 ghost use Rattle.vs_config.specs.Configuration.{configuration};
 ghost use Rattle.vs_ending.specs.Ending.{KeepsHost};
+ghost use Rattle.vs_inputs.specs.Files.{Files};
 ghost use Rattle.vs_inputs.specs.RunInputs.{AreGoodRunInputs, MayReadRunFiles, run_names};
 ghost use Rattle.vs_inputs.specs.Words.{texts};
 ghost use Rattle.vs_machine.specs.Kinds.Stops.{is_finished};
 ghost use Rattle.vs_machine.specs.Opening.{IsLawful};
+ghost use Rattle.vs_named.specs.Named.{AreRead};
 ghost use Rattle.vs_script.specs.Scripts as script;
 ghost use Rattle.vs_run.specs.Endings.{Ends, EndsWell, HasGiven, IsFilesCause, IsRunCause, IsRunEnd, statuses};
 ghost use Rattle.vs_run.specs.Worlds.{IsEnd, IsEndCause, IsOfDisk, IsRunOn, IsSteered, from_drivers, from_service};
@@ -30,6 +32,7 @@ use vs_gate::Gate;
 use vs_host::Host;
 use vs_inputs::{RunInputs, read_run_inputs};
 use vs_machine::given_inputs;
+use vs_named::reports_are_legal;
 use vs_settle::SettleFault;
 use vs_top::{Fault, JOURNAL_LIMIT, fault_text, log_fault};
 use vs_world::World;
@@ -140,7 +143,9 @@ fn run_on<H: Host, D: Disk + Drop + Send, G: Gate + Sync, R: Threads + Wait + Sy
     requires disks { length disks.old.items ≡ 32 }
     ensures host { KeepsHost (H.told host.old) (H.told host.new) }
     ensures count { length disks.new.items ≡ 32 }
-    ensures ends { IfOk result (λ status. IsRunEnd status (between D.told (H.told host.old)
+    ensures ends { (files : Files) (names : List (List ℕ))
+        → AreRead files names (configuration inputs.config) (script.scripts inputs.scripts)
+        → IfOk result (λ status. IsRunEnd status (between D.told (H.told host.old)
         (H.told host.new) disks.old.items disks.new.items) (configuration inputs.config) (script.scripts inputs.scripts)) }
     ensures cause { IfErr result (λ fault. IsRunCause fault (between D.told (H.told host.old)
         (H.told host.new) disks.old.items disks.new.items) (configuration inputs.config)
@@ -150,6 +155,7 @@ fn run_on<H: Host, D: Disk + Drop + Send, G: Gate + Sync, R: Threads + Wait + Sy
 {
     safe_runs();
     given_inputs();
+    reports_are_legal();
     let RunInputs { config, scripts } = inputs;
     let copy = config.try_clone()?;
     let given = mem::replace(disks, Vec::new(alloc));

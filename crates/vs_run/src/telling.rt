@@ -4,6 +4,7 @@ ghost use Rattle.std.specs.Prelude.{◌≡◌, IfErr, IfOk, OnOk};
 ghost use Rattle.vs_ending.specs.Ending.{KeepsHost};
 ghost use Rattle.vs_event.specs.Event.{events_text};
 ghost use Rattle.vs_host.specs.Calls.{Logs};
+ghost use Rattle.vs_legal.specs.Laws.{AreBasesNamed};
 ghost use Rattle.vs_machine.specs.Report as machine;
 ghost use Rattle.vs_run.specs.Worlds.{IsTellingCause, IsTold};
 ghost use Rattle.vs_world.specs.Played.{state_of};
@@ -14,6 +15,7 @@ use vs_disk::Disk;
 use vs_event::{Piece, Trace, write_piece};
 use vs_host::{Host, HostFailed};
 use vs_machine::every_event;
+use vs_named::{bases_are_named, is_short};
 use vs_report::report;
 use vs_top::Fault;
 use vs_world::World;
@@ -32,10 +34,13 @@ pub fn log_events<H: Host>(host: &mut H, trace: &Trace, piece: &mut Piece) -> Re
 
 /// The report of a cluster.
 fn report_of<D: Disk + Drop>(alloc: Global, world: &World<D>) -> Result<Vec<u8>, NoMemory>
-    ensures { IfOk result (λ text. text.items ≡ machine.report (state_of world.now.played)) }
+    ensures text { IfOk result (λ text. text.items ≡ machine.report (state_of world.now.played)) }
+    ensures named { AreBasesNamed (state_of world.now.played) }
 {
     every_event();
-    report(alloc, world.core().state())
+    let state = world.core().state();
+    bases_are_named(state);
+    report(alloc, state)
 }
 
 /// Puts the report of a cluster out, and logs the text of its events.
@@ -51,6 +56,7 @@ pub fn tell<H: Host, D: Disk + Drop>(
         IsTellingCause world.now fault (H.told host.old) (H.told host.new)) }
 {
     let text = report_of(alloc, world)?;
+    is_short(&text);
     host.out(&text)?;
     log_events(host, world.trace(), piece)?;
     Ok(())

@@ -1,5 +1,5 @@
 -- From the files of a command to how it ends.
-use Rattle.std.proofs.Common.{◌≡◌, ℕ, List, ◌∷◌, refl, ◌∙◌, sym, subst, inl, inr, Ok, Err}
+use Rattle.std.proofs.Common.{◌≡◌, ℕ, ◌<◌, ◌^◌, List, length, ◌∷◌, refl, ◌∙◌, sym, subst, inl, inr, Ok, Err}
 use Rattle.vs_config.specs.Configuration.{Configuration}
 use Rattle.vs_disk.specs.Told as disk
 use Rattle.vs_event.specs.declared.event.Event.{Event}
@@ -12,6 +12,7 @@ use Rattle.vs_inputs.specs.declared.fault.InputFault.TheVariants as input
 use Rattle.vs_inputs.specs.Inputs.{AreInputs, IsInputCause, MayReadFiles}
 use Rattle.vs_inputs.specs.Reading.{OnlyReads, IsOutside}
 use Rattle.vs_inputs.specs.Words.{Names, files_of, IsCommand, MayRead}
+use Rattle.vs_named.specs.Laws.{ReportsAreLegal}
 use Rattle.vs_script.specs.Scripts.{Scripts}
 use Rattle.vs_store.specs.declared.fault.StoreFault.TheVariants as store
 use Rattle.vs_world.specs.NotOpened.{IsNotOpened}
@@ -22,6 +23,7 @@ use Rattle.vs_top.specs.declared.play.PlayFault.TheVariants as play
 use Rattle.vs_top.specs.Endings.{between, IsGiven, HasReport, IsPlayed, IsReportCut, IsFilesCause, MayEndGood, MayEndPossible}
 use Rattle.vs_top.specs.Faults.{IsNumbered, from_inputs, from_opening, from_play}
 use Rattle.vs_top.specs.Plays.{IsPlayCause, IsReportOf, journal_limit, played_on}
+use Rattle.vs_top.proofs.Legal.{is_legal}
 
 -- a command's files may be read
 pub may_read_files : (host : Told) (words : List (List ℕ)) (names : Names) → IsCommand words names → MayRead host words → MayReadFiles host names
@@ -65,12 +67,19 @@ module _ {D : Type 0} (tells : D → disk.Told) where
     abbrev given : (new : Told) → IsGiven (between tells old new before after) names
     given new = record { config = config; events = events; scripts = scripts; inputs = inputs }
 
-    has_report : (new : Told) (text : List ℕ) → IsReportOf (played_on tells config scripts events before after) text → HasReport (between tells old new before after) names text
+    abbrev has_report : (new : Told) (text : List ℕ) → IsReportOf (played_on tells config scripts events before after) text → HasReport (between tells old new before after) names text
     has_report new text report = record { given = given new; report = report }
 
     -- the report, or a front of it, was put out after the files were read
-    pub is_played : (text bytes : List ℕ) (new : Told) (u : Unit {0}) → IsReportOf (played_on tells config scripts events before after) text → bytes ≡ text → PutsOut bytes mid new (Ok u) → IsPlayed (between tells old new before after) names
-    is_played text bytes new u report is puts = record { text = text; report = has_report new text report; out = rw (← reads.out, ← is) puts.out; log = puts.log ∙ reads.log }
+    pub is_played : (text bytes : List ℕ) (new : Told) (u : Unit {0}) → IsReportOf (played_on tells config scripts events before after) text → bytes ≡ text → PutsOut bytes mid new (Ok u)
+        → ReportsAreLegal → length text < 2 ^ 64 → IsPlayed (between tells old new before after) names
+    is_played text bytes new u report is puts law short = record {
+      text = text;
+      report = has_report new text report;
+      out = rw (← reads.out, ← is) puts.out;
+      log = puts.log ∙ reads.log;
+      legal = is_legal law old.file names (played_on tells config scripts events before after) inputs text report short;
+    }
 
     pub is_cut : (text bytes : List ℕ) (new : Told) (e : HostFailed) → IsReportOf (played_on tells config scripts events before after) text → bytes ≡ text → PutsOut {U = Unit {0}} bytes mid new (Err e)
         → IsReportCut (between tells old new before after) names

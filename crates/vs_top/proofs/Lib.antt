@@ -1,5 +1,6 @@
 pub mod Causes
 pub mod Ending
+pub mod Legal
 pub mod Files
 pub mod Playing
 pub mod Possible

@@ -7,6 +7,7 @@ use Rattle.vs_disk.specs.Told.{Told}
 use Rattle.vs_event.specs.declared.event.Event.{Event}
 use Rattle.vs_script.specs.Scripts.{Scripts}
 use Rattle.vs_core.specs.Safety.{SafeRuns}
+use Rattle.vs_legal.specs.Laws.{AreBasesNamed}
 use Rattle.vs_machine.specs.Journals.{held_as}
 use Rattle.vs_machine.specs.Laws.{BegunInputs}
 use Rattle.vs_machine.specs.Report.{report}
@@ -52,9 +53,9 @@ module _ {D : Type 0} (told : D → Told) (config : Configuration) (scripts : Sc
     are_fit events after disks x it set at = k.fits x (ap (λ c. is_to (length c.sets) x) config_now ∙ to_set (length config.sets) x set.0 set.1) it (ap (λ (ds : List D). at_number ds x) disks ∙ at)
 
     -- all events were played
-    pub is_report : SafeRuns → (events : List Event) (after : List D) (text : List ℕ) → w1.disks ≡ after → HasPlayed told w w1 events (length events) → text ≡ report (state_of w1.played)
+    pub is_report : SafeRuns → (events : List Event) (after : List D) (text : List ℕ) → w1.disks ≡ after → HasPlayed told w w1 events (length events) → text ≡ report (state_of w1.played) → AreBasesNamed (state_of w1.played)
         → IsReportOf (played_on told config scripts events before after) text
-    is_report law events after text disks all is = record {
+    is_report law events after text disks all is named = record {
       began = began w.played;
       begun = is_begun events after;
       last = state_of w1.played;
@@ -62,4 +63,5 @@ module _ {D : Type 0} (told : D → Told) (config : Configuration) (scripts : Sc
       safe = law (began w.played).config (began w.played).scripts (held_as (began w.played).states) events o.kept.run.opens;
       fits = are_fit events after disks;
       text_is = is;
+      named = named;
     }

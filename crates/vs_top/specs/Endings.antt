@@ -1,6 +1,7 @@
 -- How a command ends: a record for each status.
 use Rattle.std.specs.Prelude.{◌≡◌, ◌≢◌, ◌⊎◌, ◌≤◌, ℕ, IsTrue, IsOkAnd, Contains, List, [], ◌∷◌, length, Some, Ok}
 use Rattle.std.specs.Io.KnownBytes.{Appends}
+use Rattle.vs_auditing.specs.Texts.{IsLegalText}
 use Rattle.vs_base.specs.Listed.{Listed}
 use Rattle.vs_base.specs.Numbers.{IsSetNo}
 use Rattle.vs_config.specs.Configuration.{Configuration}
@@ -75,12 +76,13 @@ pub record HasReport {D : Type 0} (o : Outside D) (names : Names) (text : List �
   pub given : IsGiven o names
   pub report : IsReportOf (played given) text
 
--- ---- status 0: the report was put out, and nothing was logged
+-- ---- status 0: the report was put out, which an audit finds legal, and nothing was logged
 pub record IsPlayed {D : Type 0} (o : Outside D) (names : Names) : Type 0 where
   pub text : List ℕ
   pub report : HasReport o names text
   pub out : Appends o.old.out o.new.out text
   pub log : o.new.log ≡ o.old.log
+  pub legal : IsLegalText text
 
 -- ---- status 2: the words are no command
 pub record IsNoCommand {D : Type 0} (o : Outside D) (words : List (List ℕ)) : Type 0 where

@@ -9,6 +9,7 @@ use Rattle.vs_event.specs.declared.reason.Reason.{Reason}
 use Rattle.vs_event.specs.Recorded.{event_of}
 use Rattle.vs_script.specs.Scripts.{Scripts}
 use Rattle.vs_core.specs.Safety.{IsSafeRun}
+use Rattle.vs_legal.specs.Laws.{AreBasesNamed}
 use Rattle.vs_machine.specs.Journals.{held_as, written}
 use Rattle.vs_machine.specs.Kinds.Stops.{Recording}
 use Rattle.vs_machine.specs.Report.{report}
@@ -59,7 +60,7 @@ AreFit p s = (x : ℕ) → OfGiven p.config p.after x (λ it. FitsDisk (p.told i
 -- ---- to the end
 
 -- All events are possible, and the run of them is safe throughout. The disks fit the state that it ends in, and the text is its
--- report.
+-- report, in which the rows with which histories began are of keys and values.
 pub record IsReportOf {D : Type 0} (p : Played D) (text : List ℕ) : Type 0 where
   pub began : Began
   pub begun : IsBegun p began
@@ -68,6 +69,7 @@ pub record IsReportOf {D : Type 0} (p : Played D) (text : List ℕ) : Type 0 whe
   pub safe : IsSafeRun (start_of began) p.events
   pub fits : AreFit p last
   pub text_is : text ≡ report last
+  pub named : AreBasesNamed last
 
 -- ---- or to an event
 

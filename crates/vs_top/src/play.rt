@@ -2,6 +2,7 @@
 
 ghost use Rattle.std.specs.Prelude.{◌≡◌, ◌⊎◌, length, Ok, Err, IfOk, IfErr};
 ghost use Rattle.vs_config.specs.Configuration.{configuration};
+ghost use Rattle.vs_legal.specs.Laws.{AreBasesNamed};
 ghost use Rattle.vs_machine.specs.Opening.{IsLawful};
 ghost use Rattle.vs_machine.specs.Report as machine_report;
 ghost use Rattle.vs_script.specs.Scripts as script;
@@ -17,6 +18,7 @@ use vs_core::safe_runs;
 use vs_disk::Disk;
 use vs_event::{Reason, Trace};
 use vs_machine::{every_event, given_inputs};
+use vs_named::bases_are_named;
 use vs_report::report;
 use vs_script::Scripts;
 use vs_world::{StepFault, World, WorldFault};
@@ -77,11 +79,14 @@ fn play<D: Disk + Drop>(world: &mut World<D>, trace: &Trace) -> Result<(), PlayF
 
 /// The report of a cluster.
 fn report_of<D: Disk + Drop>(alloc: Global, world: &World<D>) -> Result<Vec<u8>, NoMemory>
-    ensures { IfOk result (λ text.
+    ensures text { IfOk result (λ text.
         text.items ≡ machine_report.report (state_of world.now.played)) }
+    ensures named { AreBasesNamed (state_of world.now.played) }
 {
     every_event();
-    report(alloc, world.core().state())
+    let state = world.core().state();
+    bases_are_named(state);
+    report(alloc, state)
 }
 
 /// Plays events on a cluster, and gives its report.
@@ -94,6 +99,7 @@ fn report_after<D: Disk + Drop>(
     ensures goes { IfOk result (λ _. Goes D.told world.old world.new trace.now.items (Ok tt)) }
     ensures text { IfOk result (λ text.
         text.items ≡ machine_report.report (state_of world.new.played)) }
+    ensures named { IfOk result (λ _. AreBasesNamed (state_of world.new.played)) }
     ensures stops { IfErr result (λ fault. fault ≡ PlayFault.NoMemory
         ⊎ Goes D.told world.old world.new trace.now.items (Err fault)) }
 {

@@ -27,6 +27,7 @@ use std::mem;
 use vs_disk::Disk;
 use vs_host::Host;
 use vs_inputs::{Command, Inputs, command_of, read_inputs};
+use vs_named::{is_short, reports_are_legal};
 
 /// The report of the inputs on these disks, which come back.
 fn report_of<D: Disk + Drop>(
@@ -87,6 +88,8 @@ fn play_files<H: Host, D: Disk + Drop>(
 {
     let inputs = read_inputs(command.alloc, host, &command.names)?;
     let text = report_of(command.alloc, inputs, disks)?;
+    reports_are_legal();
+    is_short(&text);
     host.out(&text)?;
     Ok(())
 }

@@ -17,7 +17,7 @@ returns-in-Ok-clause-ends g c =
     let same : c.replace-given.result.items ≡ c.args.disks.now.items = ap (λ (v : Vec g.row.D.Denot). v.items) c.replace-given.ensures.value in
     let here = subst (λ (k : Configuration). IsOpened g.D.Disk.told k (scripts inputs.scripts) journal_limit c.replace-given.result.items c.in-Ok.world) c.in_ok-copy.ensures c.in-Ok.ensures.opened in
     let opened = subst (λ (ds : List g.row.D.Denot). IsOpened g.D.Disk.told (configuration inputs.config) (scripts inputs.scripts) journal_limit ds c.in-Ok.world) same here in
-    end_is g.D.Disk.told (configuration inputs.config) (scripts inputs.scripts) c.args.disks.now.items c.in-Ok.world opened c.given_inputs.ensures.begun c.safe_runs.ensures.runs _ _ c.run_world-answer.result.1.items c.run_world-answer.result.0 c.run_world-answer.ensures.ends
+    end_is g.D.Disk.told (configuration inputs.config) (scripts inputs.scripts) c.args.disks.now.items c.in-Ok.world opened c.given_inputs.ensures.begun c.safe_runs.ensures.runs _ _ c.run_world-answer.result.1.items c.run_world-answer.result.0 c.run_world-answer.ensures.ends c.reports_are_legal.ensures
 
 pub returns-in-Ok-clause-cause : goal.returns-in-Ok-clause-cause
 returns-in-Ok-clause-cause g c =

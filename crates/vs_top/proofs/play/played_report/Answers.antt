@@ -30,7 +30,7 @@ returns-in-Ok-report_after-clause-ok g c =
     let opened = subst (λ (k : Configuration). IsOpened g.D.Disk.told k (scripts c.args.scripts) journal_limit c.args.disks.items c.in-Ok-open.world) c.in-Ok.ensures c.in-Ok-open.ensures.opened in
     let goes = c.in-Ok-report_after.ensures.goes in
     is_report g.D.Disk.told (configuration c.args.config.now) (scripts c.args.scripts) c.args.disks.items c.in-Ok-open.world opened c.given_inputs.ensures.begun c.report_after.new.world c.close.ensures.kept goes.opening c.safe_runs.ensures.runs
-    c.args.trace.now.items c.close.result.items c.in-Ok-report_after.text.items (sym c.close.ensures.disks) goes c.in-Ok-report_after.ensures.text
+    c.args.trace.now.items c.close.result.items c.in-Ok-report_after.text.items (sym c.close.ensures.disks) goes c.in-Ok-report_after.ensures.text c.in-Ok-report_after.ensures.named
 
 pub returns-in-Err-report_after-clause-err_count : goal.returns-in-Err-report_after-clause-err_count
 returns-in-Err-report_after-clause-err_count g c = ap length c.close-in-Err-report_after.ensures.disks ∙ c.close-in-Err-report_after.ensures.kept.disks

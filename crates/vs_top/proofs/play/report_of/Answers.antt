@@ -1,5 +1,6 @@
 use Rattle.std.proofs.Common.{◌≡◌, ap, sym, subst, ◌∙◌}
 use Rattle.std.specs.Prelude.{IfOk}
+use Rattle.vs_legal.specs.Laws.{AreBasesNamed}
 use Rattle.vs_machine.specs.Report as machine_report
 use Rattle.vs_machine.specs.Runs.{IsReached}
 use Rattle.vs_machine.specs.State.{State}
@@ -9,10 +10,15 @@ use Rattle.vs_top.proofs.play.report_of.Goals as goal
 
 pub report-requires-clause-within : goal.report-requires-clause-within
 report-requires-clause-within g c =
-    let reached = subst IsReached (sym (ap plain c.state.ensures.value)) c.state.ensures.reached in
-    (c.every_event.ensures.whole (plain c.state.result.now) reached).1.known
+    let reached = subst IsReached (sym (ap plain c.state-state.ensures.value)) c.state-state.ensures.reached in
+    (c.every_event.ensures.whole (plain c.state-state.result.now) reached).1.known
 
-pub returns : goal.returns
-returns g c =
-    let is : plain c.state.result.now ≡ state_of c.args.world.now.played = ap plain c.state.ensures.value ∙ c.core.ensures.state in
+pub returns-clause-text : goal.returns-clause-text
+returns-clause-text g c =
+    let is : plain c.state-state.result.now ≡ state_of c.args.world.now.played = ap plain c.state-state.ensures.value ∙ c.core.ensures.state in
     subst (λ (s : State). IfOk c.report.result (λ text. text.items ≡ machine_report.report s)) is c.report.ensures
+
+pub returns-clause-named : goal.returns-clause-named
+returns-clause-named g c =
+    let is : plain c.state-state.result.now ≡ state_of c.args.world.now.played = ap plain c.state-state.ensures.value ∙ c.core.ensures.state in
+    subst AreBasesNamed is c.bases_are_named.ensures

@@ -1,4 +1,4 @@
-use Rattle.std.proofs.Common.{subst}
+use Rattle.std.proofs.Common.{◌<◌, ◌^◌, ℕ, List, length, subst}
 use Rattle.std.proofs.lemmas.Result.{err_from_is_err_and}
 use Rattle.vs_config.specs.Configuration.{configuration}
 use Rattle.vs_inputs.specs.FileNames.{names_of}
@@ -26,14 +26,14 @@ returns-in_err-out-clause-err g c =
     let p = err_from_is_err_and c.from_residual-in_err-out.result c.from_residual-in_err-out.ensures.1 in
     let inputs = c.in_ok-inputs.inputs in
     rw (p.1, p.2)
-    (is_cut g.D.Disk.told (names_of c.args.command.now.names) (configuration inputs.config) (scripts inputs.scripts) inputs.trace.items _ _ _ _ c.in_ok-inputs.ensures.ok c.in_ok-inputs.ensures.host c.in_ok-text.text.items c.deref.result.now _ c.in_err-out.field-0.0
-    c.in_ok-text.ensures.ok c.deref.ensures.value c.in_err-out.ensures)
+    (is_cut g.D.Disk.told (names_of c.args.command.now.names) (configuration inputs.config) (scripts inputs.scripts) inputs.trace.items _ _ _ _ c.in_ok-inputs.ensures.ok c.in_ok-inputs.ensures.host c.in_ok-text.text.items c.deref-2.result.now _ c.in_err-out.field-0.0
+    c.in_ok-text.ensures.ok c.deref-2.ensures.value c.in_err-out.ensures)
 
 pub returns-clause-ok : goal.returns-clause-ok
 returns-clause-ok g c =
     let inputs = c.in_ok-inputs.inputs in
-    is_played g.D.Disk.told (names_of c.args.command.now.names) (configuration inputs.config) (scripts inputs.scripts) inputs.trace.items _ _ _ _ c.in_ok-inputs.ensures.ok c.in_ok-inputs.ensures.host c.in_ok-text.text.items c.deref.result.now _ c.in_ok-out.field-0
-    c.in_ok-text.ensures.ok c.deref.ensures.value c.in_ok-out.ensures
+    is_played g.D.Disk.told (names_of c.args.command.now.names) (configuration inputs.config) (scripts inputs.scripts) inputs.trace.items _ _ _ _ c.in_ok-inputs.ensures.ok c.in_ok-inputs.ensures.host c.in_ok-text.text.items c.deref-2.result.now _ c.in_ok-out.field-0
+    c.in_ok-text.ensures.ok c.deref-2.ensures.value c.in_ok-out.ensures c.reports_are_legal.ensures (subst (λ (t : List ℕ). length t < 2 ^ 64) c.deref.ensures.value c.is_short.ensures)
 
 pub returns-in_err-text-clause-good : goal.returns-in_err-text-clause-good
 returns-in_err-text-clause-good g c =

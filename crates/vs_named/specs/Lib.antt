@@ -1,0 +1,3 @@
+pub use Rattle.vs_auditing.specs.Texts
+pub mod Named
+pub mod Laws
