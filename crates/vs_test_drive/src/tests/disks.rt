@@ -18,7 +18,8 @@ const CALLS: &[u8] = b"client\nrw 3 put a 1\nro 3 get a\n";
 /// Bucket 3 moves from set 1 to set 2.
 const MOVE: &[u8] = b"operator\nsend 3 1 2\n";
 
-/// Runs a script on new disks, of which these calls of the disk of one set fail. The disks of other sets than 1 and 2 come back as they were.
+/// Runs a script on new disks, of which these calls of the disk of one set fail. The disks of sets 3 to 32 come back as they were, each in
+/// its place.
 fn run<R: Abort + Threads + Wait + Sync>(
     rt: &R,
     alloc: Global,
