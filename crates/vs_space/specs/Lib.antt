@@ -1,5 +1,7 @@
+pub mod Class
 pub mod Counts
 pub mod Entries
+pub mod Next
 pub mod Status
 pub mod Table
 pub mod Verdict

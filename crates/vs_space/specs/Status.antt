@@ -24,6 +24,18 @@ is_kind kind.Sent (Sent to) = true
 is_kind kind.Garbage Garbage = true
 is_kind _ _ = false
 
+-- there is a status, and it is active
+abbrev pub is_active : Option Status → Bool
+is_active (Some Active) = true
+is_active status = false
+
+-- there is a status, and it leaves something to do: it is neither active nor pinned
+abbrev pub is_open : Option Status → Bool
+is_open None = false
+is_open (Some Active) = false
+is_open (Some Pinned) = false
+is_open (Some status) = true
+
 -- a bucket's status, or its having no entry, may become this
 abbrev pub MayChange : Option Status → Option Status → Type 0
 MayChange None (Some (Receiving from)) = ⊤

@@ -5,6 +5,7 @@ mod change;
 mod counts;
 mod grant;
 mod reply;
+mod search;
 mod space;
 mod status;
 

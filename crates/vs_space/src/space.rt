@@ -1,13 +1,16 @@
 //! The statuses of all buckets at one set.
 
-ghost use Rattle.std.specs.Prelude.{◌≡◌, ◌≤◌, ◌+◌, ◌↔◌, ◌<◌, ◌*◌, ℕ, [], vec_len, sum_by, Some, IsNone, IsOk, IfOk, OnOk, OnErr, IfErr};
+ghost use Rattle.std.specs.Prelude.{◌≡◌, ◌≤◌, ◌+◌, ◌↔◌, ◌<◌, ◌*◌, ℕ, [], vec_len, sum_by, Some, unwrap_or, IsNone, IsOk, IfOk, OnOk, OnErr, IfErr};
 ghost use Rattle.vs_space.specs.Entries.{status_of, with_status, count_of, booted, IsRange, RisesFrom};
 ghost use Rattle.vs_space.specs.Counts.{counted};
 ghost use Rattle.vs_space.specs.Table.{entries_from};
-ghost use Rattle.vs_space.specs.Status.{MayChange};
+ghost use Rattle.vs_space.specs.Class.{is_of};
+ghost use Rattle.vs_space.specs.Next.{IsNext};
+ghost use Rattle.vs_space.specs.Status.{MayChange, is_active, is_open};
 
 use crate::change::{NotAllowed, may_change};
 use crate::counts::KindCounts;
+use crate::search::{Class, next_place};
 use crate::status::{Status, StatusKind};
 use std::alloc::Global;
 use std::marker::Model;
@@ -19,6 +22,16 @@ fn index_of(id: BucketId) -> usize
     ensures within { result < 30000 }
 {
     id.get() as usize - 1
+}
+
+/// The first place in the table after that of a bucket, or the first of all.
+fn index_after(id: Option<BucketId>) -> usize
+    ensures { result ≡ unwrap_or id 0 }
+{
+    match id {
+        Some(id) => id.get() as usize,
+        None => 0,
+    }
 }
 
 /// A table of `total` places: none before the bucket `before + 1` has a status, the next `count` are active.
@@ -130,6 +143,27 @@ impl Space {
         ensures order { RisesFrom 1 self.now.entries }
     {
         self.counts.get(kind)
+    }
+
+    /// The first active bucket after this one, or the first of all.
+    pub fn next_active(&self, after: Option<BucketId>) -> Option<BucketId>
+        ensures { IsNext (λ b. is_active (status_of self.now.entries b)) (unwrap_or after 0) result }
+    {
+        self.next(Class::Active, after)
+    }
+
+    /// The first bucket after this one, or the first of all, that has a status and is neither active nor pinned.
+    pub fn next_open(&self, after: Option<BucketId>) -> Option<BucketId>
+        ensures { IsNext (λ b. is_open (status_of self.now.entries b)) (unwrap_or after 0) result }
+    {
+        self.next(Class::Open, after)
+    }
+
+    fn next(&self, class: Class, after: Option<BucketId>) -> Option<BucketId>
+        ensures { IsNext (λ b. is_of class (status_of self.now.entries b)) (unwrap_or after 0) result }
+    {
+        let index = next_place(class, &self.places, index_after(after))?;
+        BucketId::new(index as u32 + 1)
     }
 
     /// Gives the bucket a new status, or removes its entry. It takes no memory.
