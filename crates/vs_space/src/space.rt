@@ -1,16 +1,17 @@
 //! The statuses of all buckets at one set.
 
-ghost use Rattle.std.specs.Prelude.{◌≡◌, ◌≤◌, ◌+◌, ◌↔◌, ◌<◌, ◌*◌, ℕ, [], vec_len, sum_by, Some, unwrap_or, IsNone, IsOk, IfOk, OnOk, OnErr, IfErr};
+ghost use Rattle.std.specs.Prelude.{◌≡◌, ◌≤◌, ◌+◌, ◌↔◌, ◌<◌, ◌*◌, ℕ, [], length, vec_len, sum_by, Some, unwrap_or, IsNone, IsOk, IfOk, OnOk, OnErr, IfErr};
 ghost use Rattle.vs_space.specs.Entries.{status_of, with_status, count_of, booted, IsRange, RisesFrom};
 ghost use Rattle.vs_space.specs.Counts.{counted};
 ghost use Rattle.vs_space.specs.Table.{entries_from};
 ghost use Rattle.vs_space.specs.Class.{is_of};
+ghost use Rattle.vs_space.specs.Marks.{Tells};
 ghost use Rattle.vs_space.specs.Next.{IsNext};
 ghost use Rattle.vs_space.specs.Status.{MayChange, is_active, is_open};
 
 use crate::change::{NotAllowed, may_change};
 use crate::counts::KindCounts;
-use crate::search::{Class, next_place};
+use crate::search::{BLOCK, Class, Marks, next_place};
 use crate::status::{Status, StatusKind};
 use std::alloc::Global;
 use std::marker::Model;
@@ -54,24 +55,42 @@ fn table(
     Ok(places)
 }
 
+/// The bucket of the first place of the class after that of a bucket, or of the first of all.
+fn next_bucket(
+    class: Class,
+    places: &[Option<Status>],
+    marks: &Marks,
+    after: Option<BucketId>,
+) -> Option<BucketId>
+    requires len { length places.now ≤ 30000 }
+    requires marks { Tells class places.now marks.now }
+    ensures { IsNext (λ b. is_of class (status_of (entries_from 1 places.now) b)) (unwrap_or after 0) result }
+{
+    let index = next_place(class, places, marks, index_after(after))?;
+    BucketId::new(index as u32 + 1)
+}
+
 /// The status of each bucket at one set: the space `_bucket` of vshard. Contracts see the entries, in order of the
 /// buckets, and for how many more there is room.
 #[derive(Drop)]
 pub struct Space {
     places: Vec<Option<Status>>,
     counts: KindCounts,
+    active_marks: Marks,
+    open_marks: Marks,
 }
 
 impl Model for Space {
     ghost use Rattle.std.specs.Prelude.{length};
     ghost use Rattle.vs_space.specs.Entries.{Entries};
-    ghost use Rattle.vs_space.specs.Table.{entries_from, IsTable};
+    ghost use Rattle.vs_space.specs.Marks.{IsIndexed};
+    ghost use Rattle.vs_space.specs.Table.{entries_from};
 
     ghost Value = { Entries };
 
     ghost view = { λ s. record { entries = entries_from 1 s.places.items; room = length s.places.items } };
 
-    ghost invariant = { λ s. IsTable s.places.items s.counts };
+    ghost invariant = { λ s. IsIndexed s.places.items s.counts s.active_marks s.open_marks };
 }
 
 impl Space {
@@ -82,6 +101,8 @@ impl Space {
         Space {
             places: Vec::new(alloc),
             counts: KindCounts::new(),
+            active_marks: Marks::new(alloc),
+            open_marks: Marks::new(alloc),
         }
     }
 
@@ -93,14 +114,19 @@ impl Space {
         if count == 0 {
             return Ok(Space::new(alloc));
         }
+        let places = table(
+            alloc,
+            first as usize - 1,
+            count as usize,
+            BucketId::MAX as usize,
+        )?;
+        let active_marks = Marks::of(alloc, Class::Active, &places)?;
+        let open_marks = Marks::of(alloc, Class::Open, &places)?;
         Ok(Space {
-            places: table(
-                alloc,
-                first as usize - 1,
-                count as usize,
-                BucketId::MAX as usize,
-            )?,
+            places,
             counts: KindCounts::of_active(count),
+            active_marks,
+            open_marks,
         })
     }
 
@@ -111,6 +137,8 @@ impl Space {
         Ok(Space {
             places: Vec::from_slice(*self.places.allocator(), &self.places)?,
             counts: self.counts,
+            active_marks: self.active_marks.try_clone()?,
+            open_marks: self.open_marks.try_clone()?,
         })
     }
 
@@ -121,7 +149,11 @@ impl Space {
         ensures entries { self.new.entries ≡ self.old.entries }
     {
         if self.places.is_empty() {
-            self.places = table(*self.places.allocator(), 0, 0, BucketId::MAX as usize)?;
+            let alloc = *self.places.allocator();
+            let places = table(alloc, 0, 0, BucketId::MAX as usize)?;
+            self.active_marks = Marks::of(alloc, Class::Active, &places)?;
+            self.open_marks = Marks::of(alloc, Class::Open, &places)?;
+            self.places = places;
         }
         Ok(())
     }
@@ -149,21 +181,14 @@ impl Space {
     pub fn next_active(&self, after: Option<BucketId>) -> Option<BucketId>
         ensures { IsNext (λ b. is_active (status_of self.now.entries b)) (unwrap_or after 0) result }
     {
-        self.next(Class::Active, after)
+        next_bucket(Class::Active, &self.places, &self.active_marks, after)
     }
 
     /// The first bucket after this one, or the first of all, that has a status and is neither active nor pinned.
     pub fn next_open(&self, after: Option<BucketId>) -> Option<BucketId>
         ensures { IsNext (λ b. is_open (status_of self.now.entries b)) (unwrap_or after 0) result }
     {
-        self.next(Class::Open, after)
-    }
-
-    fn next(&self, class: Class, after: Option<BucketId>) -> Option<BucketId>
-        ensures { IsNext (λ b. is_of class (status_of self.now.entries b)) (unwrap_or after 0) result }
-    {
-        let index = next_place(class, &self.places, index_after(after))?;
-        BucketId::new(index as u32 + 1)
+        next_bucket(Class::Open, &self.places, &self.open_marks, after)
     }
 
     /// Gives the bucket a new status, or removes its entry. It takes no memory.
@@ -184,6 +209,8 @@ impl Space {
         let index = index_of(id);
         self.counts.replace(&old, &new);
         self.places[index] = new;
+        self.active_marks.renew(Class::Active, &self.places, index / BLOCK);
+        self.open_marks.renew(Class::Open, &self.places, index / BLOCK);
         Ok(())
     }
 }

@@ -5,22 +5,22 @@ use Rattle.vs_space.proofs.space.Space.change.Goals as goal
 
 pub replace-requires-clause-counted : goal.replace-requires-clause-counted
 replace-requires-clause-counted c =
-    present c.self.inside.places.items c.self.inside.counts c.self.invariant c.index_of-index.result c.args.id c.get-old.result c.index_of-index.ensures.place
+    present c.self.inside.places.items c.self.inside.counts c.self.invariant.table c.index_of-index.result c.args.id c.get-old.result c.index_of-index.ensures.place
     (c.get-old.ensures.status ∙ ap (λ (s : Entries). status_of s.entries c.args.id) (sym c.self.view_is))
 
 pub replace-requires-clause-room : goal.replace-requires-clause-room
-replace-requires-clause-room c = numbers_fit c.self.inside.places.items c.self.inside.counts c.self.invariant
+replace-requires-clause-room c = numbers_fit c.self.inside.places.items c.self.inside.counts c.self.invariant.table
 
 pub invariant_of-self : goal.invariant_of-self
 invariant_of-self c =
     let old = c.get-old.ensures.status ∙ ap (λ (s : Entries). status_of s.entries c.args.id) (sym c.self.view_is) in
-    table_set c.self.inside.places.items c.self.inside.counts c.self.invariant c.index_of-index.result c.get-old.result c.args.new c.replace.new.self
-    (has_place_in c.self.inside.places.items c.self.inside.counts c.self.invariant c.args.self.now c.index_of-index.result c.args.id c.get-old.result c.self.view_is c.index_of-index.ensures.place c.index_of-index.ensures.within c.get-old.ensures.status c.requires)
+    table_set c.self.inside.places.items c.self.inside.counts c.self.invariant.table c.index_of-index.result c.get-old.result c.args.new c.replace.new.self
+    (has_place_in c.self.inside.places.items c.self.inside.counts c.self.invariant.table c.args.self.now c.index_of-index.result c.args.id c.get-old.result c.self.view_is c.index_of-index.ensures.place c.index_of-index.ensures.within c.get-old.ensures.status c.requires)
     (old ∙ status_at c.self.inside.places.items c.index_of-index.result c.args.id c.index_of-index.ensures.place)
     c.replace.ensures
 
 pub returns-clause-ok : goal.returns-clause-ok
 returns-clause-ok c =
     entries_from-set c.self.inside.places.items 1 c.index_of-index.result c.args.id c.args.new
-    (has_place_in c.self.inside.places.items c.self.inside.counts c.self.invariant c.args.self.now c.index_of-index.result c.args.id c.get-old.result c.self.view_is c.index_of-index.ensures.place c.index_of-index.ensures.within c.get-old.ensures.status c.requires)
+    (has_place_in c.self.inside.places.items c.self.inside.counts c.self.invariant.table c.args.self.now c.index_of-index.result c.args.id c.get-old.result c.self.view_is c.index_of-index.ensures.place c.index_of-index.ensures.within c.get-old.ensures.status c.requires)
     (omega (arith, c.index_of-index.ensures.place)) ∙ ap (λ (s : Entries). with_status s.entries c.args.id c.args.new) c.self.view_is

@@ -8,5 +8,5 @@ invariant_of-self c =
     let empty : length c.self.inside.places.items ≡ 0 = grind (arith, common_steps) in
     record {
       whole = λ _. grind (arith, common_steps);
-      numbers = λ kind. c.self.invariant.numbers kind ∙ counted_nothing kind c.self.inside.places.items empty ∙ sym (c.in_ok-self-inside.ensures.counted kind ∙ zero-mul _);
+      numbers = λ kind. c.self.invariant.table.numbers kind ∙ counted_nothing kind c.self.inside.places.items empty ∙ sym (c.in_ok-self-inside.ensures.counted kind ∙ zero-mul _);
     }
