@@ -1,14 +1,13 @@
 -- What the marks of the parts of a table tell, and how they are renewed.
-use Rattle.std.proofs.Common.{◌≡◌, ◌≢◌, ℕ, ◌+◌, ◌-◌, ◌*◌, ◌/◌, ◌<◌, ◌≤◌, Bool, true, false, List, length, get_or, set, take, drop, Option, None, refl, sym, ap, ◌∙◌, arith, length-drop}
-use Rattle.std.specs.Prelude.{◌==◌, nat_lt}
+use Rattle.std.proofs.Common.{◌≡◌, ◌≢◌, ℕ, ◌+◌, ◌-◌, ◌*◌, ◌/◌, ◌<◌, ◌≤◌, Bool, true, false, List, length, get_or, set, take, drop, Option, None, refl, sym, ap, ◌∙◌, subst, arith, length-drop}
+use Rattle.std.specs.Prelude.{◌==◌}
 use Rattle.std.specs.List.{list_any}
 use Rattle.std.proofs.Math.ListN.{length-set, length-take}
 use Rattle.std.proofs.lemmas.Bool.{false_from_ne_true, false≢true}
-use Rattle.std.proofs.lemmas.Bool.Decides.{Decides-eqb, nat_tests}
-use Rattle.std.proofs.lemmas.List.{get_or-take, get_or-drop, get_or-set_same, get_or-set_other, get_or_past}
+use Rattle.std.proofs.lemmas.Bool.Decides.{Decides-eqb}
+use Rattle.std.proofs.lemmas.List.{get_or-take, get_or-drop, get_or-set_same, get_or-set_other}
 use Rattle.std.proofs.lemmas.List.Folds.{list_any_at}
 use Rattle.vs_space.specs.declared.search.Class.{Class}
-use Rattle.vs_space.specs.declared.search.Class.TheVariants as class
 use Rattle.vs_space.specs.declared.search.Marks.{Marks}
 use Rattle.vs_space.specs.declared.status.Status.{Status}
 use Rattle.vs_space.specs.Class.{is_of}
@@ -34,11 +33,6 @@ none_in p xs first size k d none from below within =
     let inside : k - first < length (take size (drop first xs)) = simp (length-take, length-drop) (omega arith) in
     let read : get_or (take size (drop first xs)) (k - first) d ≡ get_or xs k d = get_or-take size (drop first xs) (k - first) d inner ∙ get_or-drop first xs (k - first) d ∙ ap (λ i. get_or xs i d) at in
     ap p (sym read) ∙ none_at p (take size (drop first xs)) (k - first) d none inside
-
--- past the last place there is nothing
-none_past : (class : Class) (places : List (Option Status)) (k : ℕ) → length places ≤ k → is_of class (get_or places k None) ≡ false
-none_past class.Active places k past = rw (get_or_past places k None past) refl
-none_past class.Open places k past = rw (get_or_past places k None past) refl
 
 -- a block has a new mark, and its group that of its blocks
 pub within_renewed : (blocks groups : List Bool) (block size : ℕ) (mark over : Bool) → size ≡ 25 → 25 * length groups ≡ length blocks → block < length blocks → ((b : ℕ) → get_or groups (b / 25) false ≡ false → get_or blocks b false ≡ false) → over ≡ list_any (λ (m : Bool). m) (take size (drop (block / 25 * 25) (set blocks block mark))) → (b : ℕ) → get_or (set groups (block / 25) over) (b / 25) false ≡ false → get_or (set blocks block mark) b false ≡ false
@@ -68,16 +62,15 @@ told_renewed class places blocks block size mark size_is whole inside is k had u
     other : k / 40 ≢ block → is_of class (get_or places k None) ≡ false
     other ne = had ne (sym (get_or-set_other blocks block (k / 40) mark false ne) ∙ unmarked)
 
--- what is told of each place up to the last is told of all
-pub told_all : (class : Class) (places : List (Option Status)) (marks : Marks) → ((k : ℕ) → k < length places → IsTold class places marks k) → (k : ℕ) → IsTold class places marks k
-told_all class places marks told k unmarked = by_place (nat_lt k (length places)) refl
-  where
-    by_place : (t : Bool) → nat_lt k (length places) ≡ t → is_of class (get_or places k None) ≡ false
-    by_place true is = told k (grind (arith, nat_tests)) unmarked
-    by_place false is = none_past class places k (grind (arith, nat_tests))
-
--- where the places in one block changed, all that was told of others stays so
-pub told_but : (class : Class) (places : List (Option Status)) (marks : Marks) (i : ℕ) (new : Option Status) → ((k : ℕ) → IsTold class places marks k) → (k : ℕ) → k / 40 ≢ i / 40 → IsTold class (set places i new) marks k
+-- where one place was written, all is still told of the other blocks
+told_but : (class : Class) (places : List (Option Status)) (marks : Marks) (i : ℕ) (new : Option Status) → ((k : ℕ) → IsTold class places marks k) → (k : ℕ) → k / 40 ≢ i / 40 → IsTold class (set places i new) marks k
 told_but class places marks i new told k ne unmarked =
     let apart : k ≢ i = λ e. ne (ap (λ n. n / 40) e) in
     ap (is_of class) (get_or-set_other places i k new None apart) ∙ told k unmarked
+
+-- so the marks tell of all places where that block was marked anew
+pub tells_renewed : (class : Class) (places seen : List (Option Status)) (marks later : Marks) (i : ℕ) (new : Option Status) → seen ≡ set places i new → ((k : ℕ) → IsTold class places marks k) → AreMarks (length seen) later → ((k : ℕ) → (k / 40 ≢ i / 40 → IsTold class seen marks k) → IsTold class seen later k) → Tells class (set places i new) later
+tells_renewed class places seen marks later i new is had parts told =
+    let others : (k : ℕ) → k / 40 ≢ i / 40 → IsTold class seen marks k = λ k ne. subst (λ (l : List (Option Status)). IsTold class l marks k) (sym is) (told_but class places marks i new had k ne) in
+    let now : Tells class seen later = record { parts = parts; told = λ k. told k (others k) } in
+    subst (λ (l : List (Option Status)). Tells class l later) is now

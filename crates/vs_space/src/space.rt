@@ -3,7 +3,7 @@
 ghost use Rattle.std.specs.Prelude.{◌≡◌, ◌≤◌, ◌+◌, ◌↔◌, ◌<◌, ◌*◌, ℕ, [], length, vec_len, sum_by, Some, unwrap_or, IsNone, IsOk, IfOk, OnOk, OnErr, IfErr};
 ghost use Rattle.vs_space.specs.Entries.{status_of, with_status, count_of, booted, IsRange, RisesFrom};
 ghost use Rattle.vs_space.specs.Counts.{counted};
-ghost use Rattle.vs_space.specs.Table.{entries_from};
+ghost use Rattle.vs_space.specs.Table.{entries_from, IsTable};
 ghost use Rattle.vs_space.specs.Class.{is_of};
 ghost use Rattle.vs_space.specs.Marks.{Tells};
 ghost use Rattle.vs_space.specs.Next.{IsNext};
@@ -114,17 +114,30 @@ impl Space {
         if count == 0 {
             return Ok(Space::new(alloc));
         }
-        let places = table(
-            alloc,
-            first as usize - 1,
-            count as usize,
-            BucketId::MAX as usize,
-        )?;
+        Space::of_table(
+            table(
+                alloc,
+                first as usize - 1,
+                count as usize,
+                BucketId::MAX as usize,
+            )?,
+            KindCounts::of_active(count),
+        )
+    }
+
+    /// A table with a place for each bucket, and what is known of its statuses.
+    fn of_table(places: Vec<Option<Status>>, counts: KindCounts) -> Result<Space, NoMemory>
+        requires len { vec_len places ≡ 30000 }
+        requires counted { IsTable places.items counts }
+        ensures entries { IfOk result (λ space. space.entries ≡ entries_from 1 places.items) }
+        ensures room { IfOk result (λ space. space.room ≡ 30000) }
+    {
+        let alloc = *places.allocator();
         let active_marks = Marks::of(alloc, Class::Active, &places)?;
         let open_marks = Marks::of(alloc, Class::Open, &places)?;
         Ok(Space {
             places,
-            counts: KindCounts::of_active(count),
+            counts,
             active_marks,
             open_marks,
         })
@@ -149,11 +162,8 @@ impl Space {
         ensures entries { self.new.entries ≡ self.old.entries }
     {
         if self.places.is_empty() {
-            let alloc = *self.places.allocator();
-            let places = table(alloc, 0, 0, BucketId::MAX as usize)?;
-            self.active_marks = Marks::of(alloc, Class::Active, &places)?;
-            self.open_marks = Marks::of(alloc, Class::Open, &places)?;
-            self.places = places;
+            let places = table(*self.places.allocator(), 0, 0, BucketId::MAX as usize)?;
+            *self = Space::of_table(places, KindCounts::new())?;
         }
         Ok(())
     }
@@ -209,8 +219,10 @@ impl Space {
         let index = index_of(id);
         self.counts.replace(&old, &new);
         self.places[index] = new;
-        self.active_marks.renew(Class::Active, &self.places, index / BLOCK);
-        self.open_marks.renew(Class::Open, &self.places, index / BLOCK);
+        self.active_marks
+            .renew(Class::Active, &self.places, index / BLOCK);
+        self.open_marks
+            .renew(Class::Open, &self.places, index / BLOCK);
         Ok(())
     }
 }
