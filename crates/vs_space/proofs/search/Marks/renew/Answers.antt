@@ -10,7 +10,7 @@ returns-clause-marks c =
     let inside : c.args.block < length marks.blocks.items = grind (arith, common_steps) in
     record {
       blocks = rw length-set c.requires.marks.blocks;
-      groups = rw (length-set, length-set) c.requires.marks.groups;
+      groups = simp length-set c.requires.marks.groups;
       within =
           within_renewed marks.blocks.items marks.groups.items c.args.block _ c.has.result c.has_mark.result (omega arith) c.requires.marks.groups inside c.requires.marks.within
           (rw c.deref.ensures.value at c.has_mark.ensures);
