@@ -117,19 +117,19 @@ impl Marks {
         self.groups[group] = has_mark(&self.blocks[first..first + BLOCKS_OF_GROUP]);
     }
 
-    /// How many places a search that came to this one may pass: the group or the block that begins here, where it isn't
-    /// marked, else none.
+    /// How many places from this one on a search may pass: the rest of its group or of its block, where that isn't marked,
+    /// else none.
     fn unmarked(&self, from: usize) -> usize
         requires marks { AreMarks (40 * vec_len self.now.blocks) self.now }
         requires within { from < 40 * vec_len self.now.blocks }
         ensures within { from + result ≤ 40 * vec_len self.now.blocks }
         ensures unmarked { (k : ℕ) → from ≤ k → k < from + result → is_marked self.now k ≡ false }
     {
-        if from % GROUP == 0 && !self.groups[from / GROUP] {
-            return GROUP;
+        if !self.groups[from / GROUP] {
+            return GROUP - from % GROUP;
         }
-        if from % BLOCK == 0 && !self.blocks[from / BLOCK] {
-            return BLOCK;
+        if !self.blocks[from / BLOCK] {
+            return BLOCK - from % BLOCK;
         }
         0
     }

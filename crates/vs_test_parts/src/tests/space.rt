@@ -82,6 +82,9 @@ fn tables(rt: HostRuntime) {
     }
 }
 
+// Buckets at the borders of the parts of the table that a search passes as a whole.
+const BORDERS: [u32; 7] = [1, 40, 41, 1_000, 1_001, 29_999, 30_000];
+
 #[test]
 fn space(rt: HostRuntime) -> Result<(), Fail> {
     let alloc = rt.alloc();
@@ -98,5 +101,46 @@ fn space(rt: HostRuntime) -> Result<(), Fail> {
     assert_eq!(rt; copy.get(three), Some(Status::Sending(two)));
     assert_eq!(rt; copy.count(StatusKind::Active), 3);
     assert_eq!(rt; copy.count(StatusKind::Sending), 1);
+    assert_eq!(rt; copy.next_active(None), BucketId::new(4));
+    assert_eq!(rt; copy.next_active(BucketId::new(6)), None);
+    assert_eq!(rt; copy.next_open(None), Some(three));
+    assert_eq!(rt; copy.next_open(Some(three)), None);
+
+    let mut sparse = Space::new(alloc);
+    assert_eq!(rt; sparse.next_open(None), None);
+    for id in BORDERS {
+        let id = BucketId::new(id).expect(&rt, "a border is a bucket");
+        sparse.reserve()?;
+        let changed = sparse.change(id, Some(Status::Receiving(two)));
+        assert!(rt; changed.is_ok());
+    }
+    let mut last = None;
+    for id in BORDERS {
+        let id = BucketId::new(id).expect(&rt, "a border is a bucket");
+        assert_eq!(rt; sparse.next_active(last), None, "before {}", id.get());
+        assert_eq!(rt;
+            sparse.next_open(last),
+            Some(id),
+            "after the one before {}",
+            id.get()
+        );
+        assert_eq!(rt;
+            sparse.next_open(None),
+            Some(id),
+            "the first is {}",
+            id.get()
+        );
+        sparse.reserve()?;
+        let changed = sparse.change(id, Some(Status::Active));
+        assert!(rt; changed.is_ok());
+        assert_eq!(rt;
+            sparse.next_active(last),
+            Some(id),
+            "{} is active",
+            id.get()
+        );
+        last = Some(id);
+    }
+    assert_eq!(rt; sparse.next_open(None), None);
     Ok(())
 }
