@@ -108,38 +108,35 @@ fn space(rt: HostRuntime) -> Result<(), Fail> {
 
     let mut sparse = Space::new(alloc);
     assert_eq!(rt; sparse.next_open(None), None);
-    for id in BORDERS {
-        let id = BucketId::new(id).expect(&rt, "a border is a bucket");
+    for number in BORDERS {
+        let id = BucketId::new(number).expect(&rt, "a border is a bucket");
         sparse.reserve()?;
         let changed = sparse.change(id, Some(Status::Receiving(two)));
         assert!(rt; changed.is_ok());
     }
-    let mut last = None;
-    for id in BORDERS {
-        let id = BucketId::new(id).expect(&rt, "a border is a bucket");
-        assert_eq!(rt; sparse.next_active(last), None, "before {}", id.get());
+    let mut before = 0;
+    for number in BORDERS {
+        let id = BucketId::new(number).expect(&rt, "a border is a bucket");
         assert_eq!(rt;
-            sparse.next_open(last),
-            Some(id),
-            "after the one before {}",
-            id.get()
+            sparse.next_active(BucketId::new(before)),
+            None,
+            "at {number}"
         );
         assert_eq!(rt;
-            sparse.next_open(None),
+            sparse.next_open(BucketId::new(before)),
             Some(id),
-            "the first is {}",
-            id.get()
+            "at {number}"
         );
+        assert_eq!(rt; sparse.next_open(None), Some(id), "at {number}");
         sparse.reserve()?;
         let changed = sparse.change(id, Some(Status::Active));
         assert!(rt; changed.is_ok());
         assert_eq!(rt;
-            sparse.next_active(last),
+            sparse.next_active(BucketId::new(before)),
             Some(id),
-            "{} is active",
-            id.get()
+            "at {number}"
         );
-        last = Some(id);
+        before = number;
     }
     assert_eq!(rt; sparse.next_open(None), None);
     Ok(())
