@@ -4,17 +4,15 @@ ghost use Rattle.std.specs.Prelude.{◌≡◌, ◌↔◌, ℕ, Bool, IfSome, IfN
 ghost use Rattle.vs_machine.specs.Actors as actors;
 ghost use Rattle.vs_machine.specs.Actors.{HasEvent, IsLeftAside, IsOf, IsPossible};
 ghost use Rattle.vs_state.specs.Plain.{plain};
-ghost use Rattle.vs_state.specs.Sized.{IsSized, OnlyItsBuckets};
 ghost use Rattle.vs_core.specs.Core.{means};
 ghost use Rattle.vs_choose.specs.Restart.{IsBare, IsBareChoice};
-ghost use Rattle.vs_choose.specs.Service.{is_open, open_to, IsIdleAt};
+ghost use Rattle.vs_choose.specs.Service.{IsIdleAt};
 
 use crate::possible::{if_possible, is_possible};
 use vs_base::{BucketId, SetNo};
 use vs_core::Core;
 use vs_event::{Event, RestartBy};
-use vs_machine::every_event;
-use vs_space::{Status, StatusKind};
+use vs_space::Status;
 use vs_state::State;
 
 /// The set takes a message, from the lowest set of which one is under way.
@@ -99,45 +97,18 @@ fn event_for(core: &Core, set: SetNo, bucket: BucketId) -> Option<Event>
     }
 }
 
-/// Whether a status leaves something to do.
-fn is_open(status: Option<Status>) -> bool
-    ensures { result ≡ is_open status }
-{
-    !matches!(status, None | Some(Status::Active | Status::Pinned))
-}
-
-/// How many buckets have a status at the set that leaves something to do.
-fn open_count(state: &State, set: SetNo) -> u32
-    requires sized { IsSized state.now }
-    requires buckets { OnlyItsBuckets (plain state.now) }
-    ensures { result ≡ open_to (plain state.now) set (plain state.now).config.bucket_count }
-{
-    let sending = state.count(set, StatusKind::Sending);
-    let receiving = state.count(set, StatusKind::Receiving);
-    let sent = state.count(set, StatusKind::Sent);
-    let garbage = state.count(set, StatusKind::Garbage);
-    sending + receiving + sent + garbage
-}
-
 /// What the set does next with the lowest bucket with which it has something to do.
 fn next_of_buckets(core: &Core, set: SetNo) -> Option<Event>
     ensures choice { IfSome result (IsBareChoice (means core.now) (actors.Service set)) }
     ensures none { IfNone result ((b : ℕ) → IsIdleAt (means core.now) set b) }
 {
-    every_event();
     let state = core.state();
-    let mut left = open_count(state, set);
-    for index in 0..state.config.bucket_count {
-        if left == 0 {
-            return None;
+    let mut after = None;
+    while let Some(bucket) = state.next_open(set, after) {
+        if let Some(event) = event_for(core, set, bucket) {
+            return Some(event);
         }
-        let bucket = BucketId::new(index + 1)?;
-        if is_open(state.entry(set, bucket)) {
-            left -= 1;
-            if let Some(event) = event_for(core, set, bucket) {
-                return Some(event);
-            }
-        }
+        after = Some(bucket);
     }
     None
 }
@@ -152,8 +123,7 @@ fn next_of_buckets(core: &Core, set: SetNo) -> Option<Event>
 /// A restart is answered as a bare one, whatever is pending at the set: `World::restart` takes the one that the set's
 /// journal shows.
 ///
-/// It reads the lines from and to the set. Then it reads the statuses of the buckets, as far as the last one at the set
-/// that is neither active nor pinned, and none where there is no such bucket.
+/// It reads the lines from and to the set, and then the buckets that are neither active nor pinned there, and no other.
 pub fn next_service(core: &Core, set: SetNo) -> Option<Event>
     // It is an event of this service that can happen, and isn't left aside; a restart is a bare one.
     ensures choice { IfSome result (IsBareChoice (means core.now) (actors.Service set)) }

@@ -9,7 +9,8 @@ use Rattle.vs_balance.specs.declared.view.SetView.{SetView}
 use Rattle.vs_event.specs.declared.reason.Reason.TheVariants as reason
 use Rattle.vs_machine.specs.State as machine
 use Rattle.vs_machine.specs.Tables.{count_to, least_to, list_to}
-use Rattle.vs_machine.specs.Kinds.Rebalancing.{is_active, is_pinned, is_in_move, view_of, plan, plan_round, after_plan}
+use Rattle.vs_space.specs.Status.{is_active}
+use Rattle.vs_machine.specs.Kinds.Rebalancing.{is_pinned, is_in_move, view_of, plan, plan_round, after_plan}
 use Rattle.vs_machine.specs.declared.outcome.CommandFault.TheVariants.{Down}
 use Rattle.vs_machine.specs.declared.outcome.CommandOutcome.TheVariants.{Refused}
 use Rattle.vs_machine.proofs.Can.Others.{can_plan}

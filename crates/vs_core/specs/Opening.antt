@@ -14,7 +14,8 @@ use Rattle.vs_space.specs.declared.status.Status.{Status}
 use Rattle.vs_machine.specs.Coherence.{is_sending, names}
 use Rattle.vs_machine.specs.Inner.Owner.{Beside}
 use Rattle.vs_machine.specs.Kinds.Collection.{is_garbage}
-use Rattle.vs_machine.specs.Kinds.Rebalancing.{is_active, is_pinned}
+use Rattle.vs_space.specs.Status.{is_active}
+use Rattle.vs_machine.specs.Kinds.Rebalancing.{is_pinned}
 use Rattle.vs_machine.specs.Opening.{Holdings, base_of, client_at, operator_at}
 use Rattle.vs_machine.specs.State as machine
 use Rattle.vs_machine.specs.Tables.{list_to}

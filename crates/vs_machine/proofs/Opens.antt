@@ -13,7 +13,8 @@ use Rattle.vs_machine.specs.Tables.{is_to, least_to, or_else}
 use Rattle.vs_machine.specs.State.{has_bucket}
 use Rattle.vs_machine.specs.Coherence.{IsServing, IsAway, IsServed, IsSending, HasSent, IsReceiving, is_sending, owner_at, names}
 use Rattle.vs_machine.specs.Kinds.Connections.{is_receiving}
-use Rattle.vs_machine.specs.Kinds.Rebalancing.{is_active, is_pinned}
+use Rattle.vs_space.specs.Status.{is_active}
+use Rattle.vs_machine.specs.Kinds.Rebalancing.{is_pinned}
 use Rattle.vs_script.specs.Lawful.{IsLawfulCommand}
 use Rattle.vs_script.specs.Scripts.{Scripts, script_of}
 use Rattle.vs_machine.specs.Opening.{Holdings, base_of, opening}

@@ -10,7 +10,8 @@ use Rattle.vs_send.specs.declared.transfer.Transfer.{Transfer}
 use Rattle.vs_machine.specs.Tables.{put, or_else, least_to}
 use Rattle.vs_machine.specs.State.{State, sets_of}
 use Rattle.vs_machine.specs.Kinds.Connections.{is_receiving}
-use Rattle.vs_machine.specs.Kinds.Rebalancing.{is_active, is_pinned}
+use Rattle.vs_space.specs.Status.{is_active}
+use Rattle.vs_machine.specs.Kinds.Rebalancing.{is_pinned}
 
 -- ---- coherence
 

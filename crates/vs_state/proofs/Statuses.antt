@@ -8,12 +8,12 @@ use Rattle.vs_space.specs.declared.status.Status.{Status}
 use Rattle.vs_space.specs.declared.status.Status.TheVariants as status
 use Rattle.vs_space.specs.declared.status.StatusKind.{StatusKind}
 use Rattle.vs_space.specs.declared.status.StatusKind.TheVariants as kind
-use Rattle.vs_space.specs.Status.{is_kind}
+use Rattle.vs_space.specs.Status.{is_kind, is_active}
 use Rattle.vs_space.specs.Entries.{RisesFrom, status_of, count_of}
 use Rattle.vs_machine.specs.Tables.{count_to, is_to}
 use Rattle.vs_machine.specs.State.{State}
 use Rattle.vs_machine.specs.Kinds.Connections.{is_receiving}
-use Rattle.vs_machine.specs.Kinds.Rebalancing.{is_active, is_pinned, view_of}
+use Rattle.vs_machine.specs.Kinds.Rebalancing.{is_pinned, view_of}
 use Rattle.vs_state.specs.Statuses.{has_kind, number_at}
 use Rattle.vs_state.proofs.Counts.{counts_same, counts_none, counts_or, one_more}
 

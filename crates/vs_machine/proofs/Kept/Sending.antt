@@ -26,7 +26,8 @@ use Rattle.vs_machine.specs.State.{State, Bucket, Operator, sets_of, next_comman
 use Rattle.vs_script.specs.Lawful.{IsLawfulCommand, IsWithin}
 use Rattle.vs_machine.specs.Kinds.Faults.{send_fault, fault_if, if_down, unless_active}
 use Rattle.vs_machine.specs.Kinds.Sender.{Move, move_of, in_phase, with_begun, start, after_start, not_yet, chunk, last, answered_by, moved_by, end_move, next_page, last_key}
-use Rattle.vs_machine.specs.Kinds.Rebalancing.{haul, after_haul, put_left, left_on, with_left, is_route, bucket_to_haul, is_free, is_active}
+use Rattle.vs_space.specs.Status.{is_active}
+use Rattle.vs_machine.specs.Kinds.Rebalancing.{haul, after_haul, put_left, left_on, with_left, is_route, bucket_to_haul, is_free}
 use Rattle.vs_machine.specs.Whole.{Inner}
 use Rattle.vs_machine.specs.Inner.Phases.{PhaseFits}
 use Rattle.vs_machine.specs.Inner.Copying.{CopyFits}

@@ -2,7 +2,8 @@
 use Rattle.std.specs.Prelude.{ℕ, ◌+◌, ◌-◌, ◌==◌, ◌&&◌, ◌||◌, ◌^◌, not, nat_lt, min, Bool, true, false, if◌then◌else◌, List, map, Option, Some, None, is_none, Result, Ok}
 use Rattle.std.specs.List.{sum_by, list_all}
 use Rattle.vs_space.specs.declared.status.Status.{Status}
-use Rattle.vs_space.specs.declared.status.Status.TheVariants.{Active, Pinned, Sending, Receiving}
+use Rattle.vs_space.specs.declared.status.Status.TheVariants.{Pinned, Sending, Receiving}
+use Rattle.vs_space.specs.Status.{is_active}
 use Rattle.vs_event.specs.declared.reason.Reason.{Reason}
 use Rattle.vs_event.specs.declared.reason.Reason.TheVariants as reason
 use Rattle.vs_script.specs.declared.command.Command as declared_command
@@ -24,10 +25,6 @@ use Rattle.vs_machine.specs.Kinds.Sender.{with_begun}
 use Rattle.vs_machine.specs.Kinds.Connections.{is_null}
 
 -- ---- what the rebalancer sees
-
-abbrev pub is_active : Option Status → Bool
-is_active (Some Active) = true
-is_active entry = false
 
 abbrev pub is_pinned : Option Status → Bool
 is_pinned (Some Pinned) = true

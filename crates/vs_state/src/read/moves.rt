@@ -3,6 +3,7 @@
 ghost use Rattle.std.specs.Prelude.{◌≡◌, ◌&&◌, ℕ, nat_lt, Some};
 ghost use Rattle.std.specs.List.{list_any};
 ghost use Rattle.vs_machine.specs.Kinds.Rebalancing.{is_moving, is_haul_of, hauls_of, is_in_move, is_free, bucket_to_haul};
+ghost use Rattle.vs_space.specs.Next.{IsNext};
 ghost use Rattle.vs_machine.specs.State as machine;
 ghost use Rattle.vs_machine.specs.Tables.{count_to, least_to, is_to};
 ghost use Rattle.vs_state.specs.Moves.{first_down, first_in_move};
@@ -123,7 +124,6 @@ impl State {
     /// The bucket that a haul between two sets moves: the lowest that is free at the first. There is none where one of
     /// the sets is down.
     pub fn bucket_to_haul(&self, from: SetNo, to: SetNo) -> Option<BucketId>
-        requires { IsSized self.now }
         ensures { result ≡ bucket_to_haul (plain self.now) from to }
     {
         if self.up(from) && self.up(to) {
@@ -135,14 +135,26 @@ impl State {
 
     // The lowest bucket that is free at the set.
     fn first_free(&self, set: SetNo) -> Option<BucketId>
-        requires { IsSized self.now }
         ensures { result ≡ least_to (is_free (plain self.now) set) (plain self.now).config.bucket_count }
     {
-        for index in 0..self.config.bucket_count {
-            let bucket = BucketId::new(index + 1)?;
+        let bucket = self.next_free(set)?;
+        if self.has_bucket(bucket) {
+            Some(bucket)
+        } else {
+            None
+        }
+    }
+
+    // The lowest bucket that is active at the set and has no transfer from there.
+    fn next_free(&self, set: SetNo) -> Option<BucketId>
+        ensures { IsNext (is_free (plain self.now) set) 0 result }
+    {
+        let mut after = None;
+        while let Some(bucket) = self.next_active(set, after) {
             if self.is_free(set, bucket) {
                 return Some(bucket);
             }
+            after = Some(bucket);
         }
         None
     }

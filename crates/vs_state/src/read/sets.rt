@@ -1,9 +1,11 @@
 //! What a set has of the buckets.
 
-ghost use Rattle.std.specs.Prelude.{◌≡◌, ◌≤◌, ℕ, true, [], length, option_map};
+ghost use Rattle.std.specs.Prelude.{◌≡◌, ◌≤◌, ℕ, true, [], length, option_map, unwrap_or};
 ghost use Rattle.std.specs.Option.{option_copied, option_map_or};
 ghost use Rattle.vs_record.specs.Change.{change};
 ghost use Rattle.vs_space.specs.Entries.{status_of};
+ghost use Rattle.vs_space.specs.Next.{IsNext};
+ghost use Rattle.vs_space.specs.Status.{is_active, is_open};
 ghost use Rattle.vs_machine.specs.State as machine;
 ghost use Rattle.vs_machine.specs.Kinds.Connections.{receiving_at};
 ghost use Rattle.vs_machine.specs.Kinds.Rebalancing.{hauls_at, view_of};
@@ -95,6 +97,21 @@ impl State {
             Some(tables) => tables.space.get(bucket),
             None => None,
         }
+    }
+
+    /// The first bucket after this one, or the first of all, that is active at a set.
+    pub fn next_active(&self, set: SetNo, after: Option<BucketId>) -> Option<BucketId>
+        ensures { IsNext (λ b. is_active (((plain self.now).bucket b).entry set)) (unwrap_or after 0) result }
+    {
+        self.set(set)?.space.next_active(after)
+    }
+
+    /// The first bucket after this one, or the first of all, that has a status at a set and is neither active nor pinned
+    /// there.
+    pub fn next_open(&self, set: SetNo, after: Option<BucketId>) -> Option<BucketId>
+        ensures { IsNext (λ b. is_open (((plain self.now).bucket b).entry set)) (unwrap_or after 0) result }
+    {
+        self.set(set)?.space.next_open(after)
     }
 
     /// How many buckets have a status of this kind at a set.
