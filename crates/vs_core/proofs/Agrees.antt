@@ -1,9 +1,8 @@
 -- The references still agree where nothing changed that they depend on.
-use Rattle.std.proofs.Common.{◌≡◌, ℕ, zero, suc, ◌+◌, Bool, true, false, Option, refl, sym, ap, ◌∙◌}
-use Rattle.std.specs.Prelude.{if◌then◌else◌, ◌&&◌}
+use Rattle.std.proofs.Common.{◌≡◌, ℕ, Bool, sym, ap, ◌∙◌}
+use Rattle.std.specs.Prelude.{◌&&◌}
 use Rattle.vs_base.specs.declared.numbers.Mode.{Mode}
 use Rattle.vs_base.specs.declared.numbers.Mode.TheVariants.{Ro, Rw}
-use Rattle.vs_refs.specs.declared.counts.Counts.{Counts}
 use Rattle.vs_machine.specs.State as machine
 use Rattle.vs_machine.specs.Tables.{count_to}
 use Rattle.vs_machine.specs.Kinds.Collection.{is_garbage}

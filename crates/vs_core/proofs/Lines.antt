@@ -1,9 +1,9 @@
 -- A connection is written.
 use Rattle.std.proofs.Common.{◌≡◌, ℕ, ◌==◌, Bool, true, false, inl, inr, refl, sym, ap, subst, ◌∙◌}
 use Rattle.std.specs.Prelude.{◌≢◌, ◌⊎◌, if◌then◌else◌}
-use Rattle.std.proofs.lemmas.Bool.{eqb-true, eqb-false, ne_eqb, eq-eqb}
+use Rattle.std.proofs.lemmas.Bool.{eqb-true, eqb-false, ne_eqb}
 use Rattle.vs_link.specs.Connection.{Connection, unused}
-use Rattle.vs_link.specs.Links.{Links, Line, Becomes, IsPair, line_of, connection_of}
+use Rattle.vs_link.specs.Links.{Links, Line, Becomes, IsPair, connection_of}
 use Rattle.vs_machine.specs.State as machine
 use Rattle.vs_machine.specs.Tables.{put, put_at}
 use Rattle.vs_state.specs.declared.state.State.{State}

@@ -1,10 +1,9 @@
 -- Lists whose items are named by numbers from 1.
-use Rattle.std.proofs.Common.{◌≡◌, ℕ, zero, suc, ◌+◌, ◌-◌, ◌<◌, ◌≤◌, ◌==◌, Bool, true, false, List, [], ◌∷◌, length, Option, Some, None, set, refl, sym, ap, subst, ◌∙◌, arith}
-use Rattle.std.specs.Prelude.{slice_get, slice_set, if◌then◌else◌, ◌≢◌}
+use Rattle.std.proofs.Common.{◌≡◌, ℕ, zero, suc, ◌<◌, ◌==◌, Bool, true, false, List, [], ◌∷◌, length, Option, Some, None, refl, ap, subst, arith}
+use Rattle.std.specs.Prelude.{slice_get, slice_set, if◌then◌else◌}
 use Rattle.std.specs.Option.{option_map_or}
-use Rattle.std.proofs.lemmas.Option.{slice_get_within}
 use Rattle.std.proofs.lemmas.Bool.Decides.{nat_tests}
-use Rattle.vs_machine.specs.Tables.{put, is_to}
+use Rattle.vs_machine.specs.Tables.{put}
 use Rattle.vs_state.specs.Tables.{numbered}
 
 pub numbered_of : {A B : Type 0} (f : A → B) (d : B) (items : List A) (k : ℕ) (t : A) → numbered Some None items k ≡ Some t → numbered f d items k ≡ f t

@@ -78,17 +78,13 @@ one_more_opened d t (e ∷ ds) [] made new = absurd made
 -- ---- what states hold of what is no bucket
 
 -- 0 is no bucket
-zero_none : (es : List (ℕ × Status)) (k : ℕ) → RisesFrom (k + 1) es → status_of es 0 ≡ None
+pub zero_none : (es : List (ℕ × Status)) (k : ℕ) → RisesFrom (k + 1) es → status_of es 0 ≡ None
 zero_none [] k rises = refl
 zero_none (e ∷ es) k rises = by (e.0 == 0) refl (zero_none es e.0 rises.2)
   where
     by : (t : Bool) → (e.0 == 0) ≡ t → status_of es 0 ≡ None → (if t then Some e.1 else status_of es 0) ≡ None
     by true is rest = absurd (grind (arith, nat_tests, is, rises.0))
     by false is rest = rest
-
-pub no_bucket_status : (es : List (ℕ × Status)) (n : ℕ) → RisesFrom 1 es → ((b : ℕ) → n < b → status_of es b ≡ None) → (q : ℕ) → is_to n q ≡ false → status_of es q ≡ None
-no_bucket_status es n rises above zero out = zero_none es 0 rises
-no_bucket_status es n rises above (suc k) out = above (suc k) (grind (arith, nat_tests, out))
 
 -- nothing is garbage where none is counted
 pub none_garbage : (es : List (ℕ × Status)) (b : ℕ) → count_of Garbage es ≡ 0 → is_garbage (status_of es b) ≡ false

@@ -1,5 +1,5 @@
 -- A set is up again, with its pending change or without it.
-use Rattle.std.proofs.Common.{◌≡◌, ℕ, zero, suc, ◌+◌, ◌==◌, Bool, true, false, List, Option, Some, None, Ok, refl, sym, ap, subst, ◌∙◌, arith}
+use Rattle.std.proofs.Common.{◌≡◌, ◌<◌, ℕ, zero, suc, ◌==◌, Bool, true, false, List, Option, Some, None, Ok, refl, sym, ap, subst, ◌∙◌, arith}
 use Rattle.std.specs.Prelude.{◌≢◌, ◌&&◌, if◌then◌else◌}
 use Rattle.std.specs.Option.{option_map_or}
 use Rattle.std.specs.Prelude.{slice_get, option_map as map_of}
@@ -14,7 +14,7 @@ use Rattle.vs_refs.specs.declared.counts.Counts.{Counts}
 use Rattle.vs_rows.specs.declared.staged.Staged.{Staged}
 use Rattle.vs_rows.specs.RowMap.{RowMap}
 use Rattle.vs_send.specs.declared.transfer.Transfer.{Transfer}
-use Rattle.vs_space.specs.Status.{MayChange}
+use Rattle.vs_space.specs.Status.{MayChange, is_open}
 use Rattle.vs_space.specs.declared.status.Status.{Status}
 use Rattle.vs_space.specs.declared.status.Status.TheVariants.{Active, Pinned, Sending, Receiving, Sent, Garbage}
 use Rattle.vs_machine.specs.declared.outcome.CommandOutcome.TheVariants.{Done}
@@ -183,49 +183,95 @@ module _ (s : machine.State) (known : IsKnown s) (x : ℕ) (down : s.up x ≡ fa
       none = put_each (λ q (b : machine.Bucket). b.transfer x ≡ None) s.bucket (bucket_of c) (with_change (s.bucket (bucket_of c)) x c)
           (ap (λ (f : ℕ → Option Transfer). f x) (same_transfer (s.bucket (bucket_of c)) x c) ∙ no_transfer s x known.whole.ups down (bucket_of c)) (no_transfer s x known.whole.ups down)
 
+-- ---- which buckets are garbage once the change took effect
+
+-- what is garbage is open
+pub not_open : (e : Option Status) → is_open e ≡ false → is_garbage e ≡ false
+not_open None closed = refl
+not_open (Some Active) closed = refl
+not_open (Some Pinned) closed = refl
+not_open (Some (Sending d)) closed = refl
+not_open (Some (Receiving d)) closed = refl
+not_open (Some (Sent d)) closed = refl
+not_open (Some Garbage) closed = absurd (cc closed)
+
+-- nor does a change make garbage of what isn't
+changed_not_open : (e : Option Status) (c : Change) → IsLawfulChange e c → is_open e ≡ false → is_garbage (status_by c e) ≡ false
+changed_not_open e (SetStatus q Active) lawful closed = refl
+changed_not_open e (SetStatus q Pinned) lawful closed = refl
+changed_not_open e (SetStatus q (Sending d)) lawful closed = refl
+changed_not_open e (SetStatus q (Receiving d)) lawful closed = refl
+changed_not_open e (SetStatus q (Sent d)) lawful closed = refl
+changed_not_open None (SetStatus q Garbage) lawful closed = absurd lawful.1
+changed_not_open (Some Active) (SetStatus q Garbage) lawful closed = absurd lawful.1
+changed_not_open (Some Pinned) (SetStatus q Garbage) lawful closed = absurd lawful.1
+changed_not_open (Some (Sending d)) (SetStatus q Garbage) lawful closed = absurd (cc closed)
+changed_not_open (Some (Receiving d)) (SetStatus q Garbage) lawful closed = absurd (cc closed)
+changed_not_open (Some (Sent d)) (SetStatus q Garbage) lawful closed = absurd (cc closed)
+changed_not_open (Some Garbage) (SetStatus q Garbage) lawful closed = absurd (cc closed)
+changed_not_open e (AddRows q z page) lawful closed = refl
+changed_not_open e (Write id q ops) lawful closed = not_open e closed
+changed_not_open e (Wipe q k) lawful closed = not_open e closed
+changed_not_open e (Forget q) lawful closed = refl
+
 module _ (s : machine.State) (known : IsKnown s) (x : ℕ) where
-  -- what is no bucket of the cluster isn't garbage
-  no_garbage : (q : ℕ) → machine.has_bucket s q ≡ false → is_garbage ((s.bucket q).entry x) ≡ false
-  no_garbage q other = by ((s.bucket q).entry x) refl
+  -- a bucket that isn't open at the set isn't garbage there then
+  pub garbage_is_open : (c : Option Change) → ((d : Change) → c ≡ Some d → s.pending x ≡ Some d) → (q : ℕ) → is_open ((s.bucket q).entry x) ≡ false → is_garbage (((settled s x c).bucket q).entry x) ≡ false
+  garbage_is_open None pending q closed = not_open ((s.bucket q).entry x) closed
+  garbage_is_open (Some c) pending q closed = by (q == bucket_of c) refl
     where
-      by : (e : Option Status) → (s.bucket q).entry x ≡ e → is_garbage e ≡ false
+      by : (e : Bool) → (q == bucket_of c) ≡ e → is_garbage (((settled s x (Some c)).bucket q).entry x) ≡ false
+      by true e =
+          let same : bucket_of c ≡ q = sym (eqb-true q (bucket_of c) e) in
+          let lawful = subst (λ q. IsLawfulChange ((s.bucket q).entry x) c) same (pending_lawful s known x c (pending c refl)) in
+          ap is_garbage (settled_here s x c q same) ∙ changed_not_open ((s.bucket q).entry x) c lawful closed
+      by false e = ap is_garbage (settled_there s x c q (λ same. absurd (grind (arith, nat_tests, e, same)))) ∙ not_open ((s.bucket q).entry x) closed
+
+  -- no bucket has the number 0
+  pub zero_not_open : is_open ((s.bucket 0).entry x) ≡ false
+  zero_not_open = by ((s.bucket 0).entry x) refl
+    where
+      by : (e : Option Status) → (s.bucket 0).entry x ≡ e → is_open e ≡ false
       by None is = refl
-      by (Some st) is = absurd (cc (known.whole.known q x (λ none. absurd (cc (sym is ∙ none))), other))
+      by (Some st) is = absurd (cc (known.whole.known 0 x (λ none. absurd (cc (sym is ∙ none)))))
 
-  pub garbage_within : (c : Option Change) → ((d : Change) → c ≡ Some d → s.pending x ≡ Some d) → (q : ℕ) → machine.has_bucket s q ≡ false → is_garbage (((settled s x c).bucket q).entry x) ≡ false
-  garbage_within None pending q other = no_garbage q other
-  garbage_within (Some c) pending q other =
-      ap is_garbage (settled_there s x c q (λ same. absurd (cc (ap (machine.has_bucket s) same, pending_bucket s known x c (pending c refl), other)))) ∙ no_garbage q other
-
--- one more bucket is locked, if it is to be
-pub one_more_lock : (g : ℕ → Bool) (old new : List (ℕ × Counts)) (n m : ℕ) → m ≡ n + 1
+-- the next bucket is locked, if it is to be; between it and the last one there is none
+pub one_more_lock : (g : ℕ → Bool) (old new : List (ℕ × Counts)) (n m : ℕ) → n < m → ((q : ℕ) → n < q → q < m → g q ≡ false)
     → ((q : ℕ) → counts_of old q ≡ (if is_to n q then record no_counts { ro_lock = g q } else no_counts))
     → ((q : ℕ) → counts_of new q ≡ (if q == m then record no_counts { ro_lock = g m } else counts_of old q))
     → (q : ℕ) → counts_of new q ≡ (if is_to m q then record no_counts { ro_lock = g q } else no_counts)
-one_more_lock g old new n m next before more q = more q ∙ by (q == m) refl
+one_more_lock g old new n m above between before more q = more q ∙ by (q == m) refl
   where
+    passed : (i j : Bool) → is_to n q ≡ i → is_to m q ≡ j → (q == m) ≡ false → (if i then record no_counts { ro_lock = g q } else no_counts) ≡ (if j then record no_counts { ro_lock = g q } else no_counts)
+    passed true true i j e = refl
+    passed false false i j e = refl
+    passed true false i j e = absurd (grind (arith, nat_tests, i, j, above))
+    passed false true i j e = λ k. record no_counts { ro_lock = sym (between q (grind (arith, nat_tests, i, j)) (grind (arith, nat_tests, j, e))) k }
+
     by : (e : Bool) → (q == m) ≡ e → (if e then record no_counts { ro_lock = g m } else counts_of old q) ≡ (if is_to m q then record no_counts { ro_lock = g q } else no_counts)
     by true e =
         let same : q ≡ m = eqb-true q m e in
-        let within : is_to m q ≡ true = grind (arith, nat_tests, same, next) in
+        let within : is_to m q ≡ true = grind (arith, nat_tests, same, above) in
         λ i. if sym within i then record no_counts { ro_lock = g (sym same i) } else no_counts
-    by false e =
-        let same : is_to n q ≡ is_to m q = grind (arith, nat_tests, e, next) in
-        before q ∙ (λ i. if same i then record no_counts { ro_lock = g q } else no_counts)
+    by false e = before q ∙ passed (is_to n q) (is_to m q) refl refl e
 
 -- all are locked that are to be
-pub all_locked : (g : ℕ → Bool) (refs : List (ℕ × Counts)) (n : ℕ) → ((q : ℕ) → is_to n q ≡ false → g q ≡ false)
+pub all_locked : (g : ℕ → Bool) (refs : List (ℕ × Counts)) (n : ℕ) → g 0 ≡ false → ((q : ℕ) → n < q → g q ≡ false)
     → ((q : ℕ) → counts_of refs q ≡ (if is_to n q then record no_counts { ro_lock = g q } else no_counts)) → (q : ℕ) → counts_of refs q ≡ record no_counts { ro_lock = g q }
-all_locked g refs n none locked q = locked q ∙ by (is_to n q) refl
+all_locked g refs n first beyond locked q = locked q ∙ by (is_to n q) refl
   where
+    none : (q : ℕ) → is_to n q ≡ false → g q ≡ false
+    none zero out = first
+    none (suc k) out = beyond (suc k) (grind (arith, nat_tests, out))
+
     by : (e : Bool) → is_to n q ≡ e → (if e then record no_counts { ro_lock = g q } else no_counts) ≡ record no_counts { ro_lock = g q }
     by true e = refl
     by false e = λ i. record no_counts { ro_lock = sym (none q e) i }
 
 -- a bucket beyond those that were seen has no references
-pub not_yet_locked : (g : ℕ → Bool) (refs : List (ℕ × Counts)) (n b : ℕ) → b ≡ n + 1 → ((q : ℕ) → counts_of refs q ≡ (if is_to n q then record no_counts { ro_lock = g q } else no_counts)) → counts_of refs b ≡ no_counts
-not_yet_locked g refs n b is locked =
-    let beyond : is_to n b ≡ false = grind (arith, nat_tests, is) in
+pub not_yet_locked : (g : ℕ → Bool) (refs : List (ℕ × Counts)) (n b : ℕ) → n < b → ((q : ℕ) → counts_of refs q ≡ (if is_to n q then record no_counts { ro_lock = g q } else no_counts)) → counts_of refs b ≡ no_counts
+not_yet_locked g refs n b above locked =
+    let beyond : is_to n b ≡ false = grind (arith, nat_tests, above) in
     locked b ∙ (λ i. if beyond i then record no_counts { ro_lock = g b } else no_counts)
 
 -- ---- what was made ready, where a set's pending change was taken out

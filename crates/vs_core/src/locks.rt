@@ -64,7 +64,7 @@ pub(crate) fn lock_if(refs: &mut Refs, bucket: BucketId, locked: bool) -> Result
 }
 
 /// The references of a set that is down, once it is up: buckets that are garbage then are locked against reads. A set
-/// that is up gets none.
+/// that is up gets none. Only a bucket that is neither active nor pinned can be garbage then, so no other is looked at.
 pub(crate) fn settled_locks(state: &State, set: SetNo, kept: bool) -> Result<Refs, NoMemory>
     requires known { IsKnown (plain state.now) }
     ensures { IfOk result (λ refs. (plain state.now).up set ≡ false → AreLocks refs.items
@@ -74,12 +74,11 @@ pub(crate) fn settled_locks(state: &State, set: SetNo, kept: bool) -> Result<Ref
     if state.up(set) {
         return Ok(refs);
     }
-    for before in 0..state.config.bucket_count {
-        let Some(bucket) = BucketId::new(before + 1) else {
-            unreachable!()
-        };
+    let mut after = None;
+    while let Some(bucket) = state.next_open(set, after) {
         let status = settled_status(state, set, kept, bucket);
         lock_if(&mut refs, bucket, is_garbage(&status))?;
+        after = Some(bucket);
     }
     Ok(refs)
 }

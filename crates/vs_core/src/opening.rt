@@ -1,6 +1,6 @@
 //! How a cluster begins.
 
-ghost use Rattle.std.specs.Prelude.{◌≡◌, ◌<◌, ◌≤◌, ℕ, None, length, map, false, All, IfOk, IfErr, OnOk};
+ghost use Rattle.std.specs.Prelude.{◌≡◌, ℕ, None, length, map, false, All, IfOk, IfErr, OnOk};
 ghost use Rattle.vs_config.specs.Configuration.{configuration};
 ghost use Rattle.vs_refs.specs.Counts.{no_counts};
 ghost use Rattle.vs_refs.specs.Refs.{counts_of};
@@ -35,11 +35,8 @@ use vs_space::{Space, StatusKind};
 use vs_state::{ClientTables, CommandOutcomes, OperatorTables, SetTables, State};
 use vs_table::Table;
 
-/// The references of a set that is up, and at which no call began: of the first `count` buckets those that are garbage are
-/// locked against reads.
-fn garbage_locks(alloc: Global, space: &Space, count: u32) -> Result<Refs, NoMemory>
-    requires few { count ≤ 30000 }
-    requires within { (b : ℕ) → count < b → status_of space.now.entries b ≡ None }
+/// The references of a set that is up, and at which no call began: buckets that are garbage are locked against reads.
+fn garbage_locks(alloc: Global, space: &Space) -> Result<Refs, NoMemory>
     ensures locks { IfOk result (λ refs. (b : ℕ) → counts_of refs.items b
         ≡ record no_counts { ro_lock = collection.is_garbage (status_of space.now.entries b) }) }
     ensures rising { RisesFrom 1 space.now.entries }
@@ -48,23 +45,20 @@ fn garbage_locks(alloc: Global, space: &Space, count: u32) -> Result<Refs, NoMem
     if space.count(StatusKind::Garbage) == 0 {
         return Ok(refs);
     }
-    for before in 0..count {
-        let Some(bucket) = BucketId::new(before + 1) else {
-            unreachable!()
-        };
+    let mut after = None;
+    while let Some(bucket) = space.next_open(after) {
         let status = space.get(bucket);
         lock_if(&mut refs, bucket, is_garbage(&status))?;
+        after = Some(bucket);
     }
     Ok(refs)
 }
 
 /// A set that is up, and has what its journal stands for.
-fn opened_set(alloc: Global, state: SetState, count: u32) -> Result<SetTables, NoMemory>
-    requires few { count ≤ 30000 }
-    requires within { IsOfBuckets count state }
+fn opened_set(alloc: Global, state: SetState) -> Result<SetTables, NoMemory>
     ensures { IfOk result (λ set. IsOpenedSet state set) }
 {
-    let refs = garbage_locks(alloc, &state.space, count)?;
+    let refs = garbage_locks(alloc, &state.space)?;
     Ok(SetTables {
         is_up: true,
         space: state.space,
@@ -80,14 +74,12 @@ fn opened_set(alloc: Global, state: SetState, count: u32) -> Result<SetTables, N
 }
 
 /// Sets that are up, and have what their journals stand for.
-fn opened_sets(alloc: Global, states: Vec<SetState>, count: u32) -> Result<Vec<SetTables>, NoMemory>
-    requires few { count ≤ 30000 }
-    requires within { All (IsOfBuckets count) states.items }
+fn opened_sets(alloc: Global, states: Vec<SetState>) -> Result<Vec<SetTables>, NoMemory>
     ensures { IfOk result (λ sets. AreOpenedSets states.items sets.items) }
 {
     let mut sets = Vec::with_capacity(alloc, states.len())?;
     for state in states {
-        sets.push(opened_set(alloc, state, count)?)?;
+        sets.push(opened_set(alloc, state)?)?;
     }
     Ok(sets)
 }
@@ -131,12 +123,11 @@ fn new_operators(alloc: Global, scripts: OperatorCommands) -> Result<Vec<Operato
 fn opened_state(config: &Config, scripts: Scripts, states: Vec<SetState>) -> Result<State, NoMemory>
     requires lawful { IsLawful (configuration config.now) (script.scripts scripts) }
     requires sets { length states.items ≡ length config.now.sets.items }
-    requires buckets { All (IsOfBuckets config.now.bucket_count) states.items }
     ensures { IfOk result (λ state. IsOpened (configuration config.now) (script.scripts scripts) states.items state) }
 {
     let alloc = *states.allocator();
     let config = config.try_clone()?;
-    let sets = opened_sets(alloc, states, config.bucket_count)?;
+    let sets = opened_sets(alloc, states)?;
     let links = Links::new(alloc, config.sets.len() as u8)?;
     let clients = new_clients(alloc, scripts.clients)?;
     let operators = new_operators(alloc, scripts.operators)?;

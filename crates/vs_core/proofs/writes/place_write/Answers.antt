@@ -1,4 +1,4 @@
-use Rattle.std.proofs.Common.{◌≡◌, ◌-◌, refl, sym, ap, ◌∙◌}
+use Rattle.std.proofs.Common.{◌≡◌, ◌-◌, sym, ap, ◌∙◌}
 use Rattle.vs_rows.specs.Said.{said_all}
 use Rattle.vs_history.specs.History.{History, with_write}
 use Rattle.vs_machine.specs.State as machine

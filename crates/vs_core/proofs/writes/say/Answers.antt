@@ -1,4 +1,4 @@
-use Rattle.std.proofs.Common.{◌≡◌, ◌-◌, Bool, true, refl, sym, ap, subst, ◌∙◌}
+use Rattle.std.proofs.Common.{◌≡◌, ◌-◌, true, sym, ap, subst, ◌∙◌}
 use Rattle.std.specs.Prelude.{◌&&◌}
 use Rattle.vs_rows.specs.Said.{said_all}
 use Rattle.vs_calls.specs.Progress.{Progress, acted, is_held, is_running}

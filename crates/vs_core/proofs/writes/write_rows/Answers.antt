@@ -1,4 +1,4 @@
-use Rattle.std.proofs.Common.{◌≡◌, ◌-◌, refl, sym, ap, ◌∙◌}
+use Rattle.std.proofs.Common.{◌-◌, refl, ap, ◌∙◌}
 use Rattle.vs_rows.specs.Changes.{with_changes}
 use Rattle.vs_machine.specs.State as machine
 use Rattle.vs_state.specs.Plain.{plain}

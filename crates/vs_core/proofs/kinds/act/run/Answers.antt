@@ -1,4 +1,4 @@
-use Rattle.std.proofs.Common.{◌≡◌, sym, ap, subst, ◌∙◌}
+use Rattle.std.proofs.Common.{sym, ap, ◌∙◌}
 use Rattle.vs_rows.specs.Operations.{answers_to, rows_after}
 use Rattle.vs_rows.specs.Said.{said_all}
 use Rattle.vs_rows.specs.Changes.{with_changes}

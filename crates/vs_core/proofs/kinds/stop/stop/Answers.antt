@@ -1,4 +1,4 @@
-use Rattle.std.proofs.Common.{◌≡◌, ℕ, Bool, Ok, Some, sym, ap, ◌∙◌}
+use Rattle.std.proofs.Common.{ℕ, Bool, Ok, Some, sym, ap, ◌∙◌}
 use Rattle.std.specs.Option.{option_copied}
 use Rattle.std.specs.Prelude.{if◌then◌else◌}
 use Rattle.vs_machine.specs.declared.outcome.CommandOutcome.TheVariants.{Done, WasDown}
